@@ -1,0 +1,156 @@
+-- The paper's judgments, as document 01 narrows them: run by figures 3 and 12, typing by figures 4 and 13, with appendix A's judgments for pick and for.
+-- No units, no depth, no order. A premise `statementAt S i ≡ ..` says which rule a row is for. Subsumption stands only where document 01 asks for inclusion, and arities are replaced by "an atom as written".
+use Prim.Native.Nat.{ℕ, zero, suc, _≤_}
+use mathlib.Core.Path.{_≡_}
+use mathlib.Core.Bool.{Bool, true, false}
+use mathlib.Core.List.{List, [], _∷_, _++_}
+use lib.ListN.{getD}
+use Rattle.meaning.specs.Sheet.{Script}
+use Rattle.meaning.specs.Kinds.{Query, Test, Statement, queryAt, statementAt}
+use Rattle.meaning.specs.Forest.{Text, Tree, Forest, nil, cons, only, _⊕_, textAt, sameBytes}
+use Rattle.meaning.specs.Types.{Ty, Named, Within, Atom, atomOf, declared, namesIn}
+use Rattle.meaning.specs.Run.{Env, Fate, matched, passed, seen, tested, inside, kept}
+use Rattle.meaning.specs.Check.{Types, tests, declaration}
+
+-- ---- run: γ ⊢ e ⇒ v (figure 12) and γ; v ⊢ s ⇒ v′ (figure 3)
+
+module _ (S : Script) (byte : ℕ → ℕ) where
+  mutual
+    -- row i, a query, gives v
+    pub data Gives : Env → ℕ → Forest → Type 0 where
+      g-empty : {γ : Env} {i : ℕ} → queryAt S i ≡ Query.empty → Gives γ i nil
+      g-join : {γ : Env} {i p q : ℕ} {x y : Forest} → queryAt S i ≡ Query.join p q → Gives γ p x → Gives γ q y → Gives γ i (x ⊕ y)
+      g-tree : {γ : Env} {i n q : ℕ} {x : Forest} → queryAt S i ≡ Query.tree n q → Gives γ q x → Gives γ i (only (Tree.node n x))
+      g-text : {γ : Env} {i p q : ℕ} → queryAt S i ≡ Query.text p q → Gives γ i (only (Tree.text (textAt byte p q)))
+      g-bool : {γ : Env} {i : ℕ} {b : Bool} → queryAt S i ≡ Query.bool b → Gives γ i (only (Tree.bool b))
+      g-variable : {γ : Env} {i v : ℕ} {x : Forest} → queryAt S i ≡ Query.variable v → getD γ v nil ≡ x → Gives γ i x
+      g-let : {γ : Env} {i p q : ℕ} {x y : Forest} → queryAt S i ≡ Query.letin p q → Gives γ p x → Gives (γ ++ x ∷ []) q y → Gives γ i y
+      g-if-true : {γ : Env} {i p q r : ℕ} {x : Forest} → queryAt S i ≡ Query.if p q r → Gives γ p (only (Tree.bool true)) → Gives γ q x → Gives γ i x
+      g-if-false : {γ : Env} {i p q r : ℕ} {x : Forest} → queryAt S i ≡ Query.if p q r → Gives γ p (only (Tree.bool false)) → Gives γ r x → Gives γ i x
+      g-same : {γ : Env} {i p q : ℕ} {w v : Text} → queryAt S i ≡ Query.same p q → Gives γ p (only (Tree.text w)) → Gives γ q (only (Tree.text v)) → Gives γ i (only (Tree.bool (sameBytes (w .bytes) (v .bytes))))
+      g-children : {γ : Env} {i v : ℕ} {x : Forest} → queryAt S i ≡ Query.children v → inside (seen (getD γ v nil)) ≡ x → Gives γ i x
+      g-pick : {γ : Env} {i p l : ℕ} {x y : Forest} → queryAt S i ≡ Query.pick p l → Gives γ p x → kept l x ≡ y → Gives γ i y
+      g-for : {γ : Env} {i p q : ℕ} {x y : Forest} → queryAt S i ≡ Query.for p q → Gives γ p x → GivesEach γ q x y → Gives γ i y
+
+    -- row q, for each tree, one after the other
+    pub data GivesEach : Env → ℕ → Forest → Forest → Type 0 where
+      each-none : {γ : Env} {q : ℕ} → GivesEach γ q nil nil
+      each-tree : {γ : Env} {q : ℕ} {t : Tree} {f x y : Forest} → Gives (γ ++ only t ∷ []) q x → GivesEach γ q f y → GivesEach γ q (cons t f) (x ⊕ y)
+
+  -- a call's queries give the parameters' values
+  pub data GivesAll (γ : Env) : List ℕ → List Forest → Type 0 where
+    all-none : GivesAll γ [] []
+    all-more : {q : ℕ} {l : List ℕ} {x : Forest} {m : List Forest} → Gives γ q x → GivesAll γ l m → GivesAll γ (q ∷ l) (x ∷ m)
+
+  mutual
+    -- row i, a statement, takes the focus to a value
+    pub data Takes : Env → ℕ → Forest → Forest → Type 0 where
+      t-skip : {γ : Env} {i : ℕ} {f : Forest} → statementAt S i ≡ Statement.skip → Takes γ i f f
+      t-then : {γ : Env} {i p q : ℕ} {f g h : Forest} → statementAt S i ≡ Statement.then p q → Takes γ p f g → Takes γ q g h → Takes γ i f h
+      t-if-true : {γ : Env} {i p q r : ℕ} {f g : Forest} → statementAt S i ≡ Statement.if p q r → Gives γ p (only (Tree.bool true)) → Takes γ q f g → Takes γ i f g
+      t-if-false : {γ : Env} {i p q r : ℕ} {f g : Forest} → statementAt S i ≡ Statement.if p q r → Gives γ p (only (Tree.bool false)) → Takes γ r f g → Takes γ i f g
+      t-insert : {γ : Env} {i p : ℕ} {x : Forest} → statementAt S i ≡ Statement.insert p → Gives γ p x → Takes γ i nil x
+      t-delete : {γ : Env} {i : ℕ} {f : Forest} → statementAt S i ≡ Statement.delete → Takes γ i f nil
+      t-rename : {γ : Env} {i l n : ℕ} {f : Forest} → statementAt S i ≡ Statement.rename l → Takes γ i (only (Tree.node n f)) (only (Tree.node l f))
+      t-let : {γ : Env} {i p q : ℕ} {x f g : Forest} → statementAt S i ≡ Statement.letin p q → Gives γ p x → Takes (γ ++ x ∷ []) q f g → Takes γ i f g
+      t-snapshot : {γ : Env} {i p : ℕ} {f g : Forest} → statementAt S i ≡ Statement.snapshot p → Takes (γ ++ f ∷ []) p f g → Takes γ i f g
+      t-test : {γ : Env} {i r : ℕ} {t : Test} {u : Tree} {g : Forest} → statementAt S i ≡ Statement.test t r → tested t (seen (only u)) ≡ matched → Takes γ r (only u) g → Takes γ i (only u) g
+      t-pass : {γ : Env} {i r : ℕ} {t : Test} {u : Tree} → statementAt S i ≡ Statement.test t r → tested t (seen (only u)) ≡ passed → Takes γ i (only u) (only u)
+      t-children : {γ : Env} {i p n : ℕ} {f g : Forest} → statementAt S i ≡ Statement.children p → Takes γ p f g → Takes γ i (only (Tree.node n f)) (only (Tree.node n g))
+      t-left : {γ : Env} {i p : ℕ} {f x : Forest} → statementAt S i ≡ Statement.left p → Takes γ p nil x → Takes γ i f (x ⊕ f)
+      t-right : {γ : Env} {i p : ℕ} {f x : Forest} → statementAt S i ≡ Statement.right p → Takes γ p nil x → Takes γ i f (f ⊕ x)
+      t-iter : {γ : Env} {i p : ℕ} {f g : Forest} → statementAt S i ≡ Statement.iter p → TakesEach γ p f g → Takes γ i f g
+      t-call : {γ : Env} {i c : ℕ} {l : List ℕ} {m : List Forest} {f g : Forest} → statementAt S i ≡ Statement.call c l → GivesAll γ l m → Takes m (S .procedureRow c .body) f g → Takes γ i f g
+
+    -- iter: each tree of the focus as it was
+    pub data TakesEach : Env → ℕ → Forest → Forest → Type 0 where
+      iter-none : {γ : Env} {p : ℕ} → TakesEach γ p nil nil
+      iter-tree : {γ : Env} {p : ℕ} {t : Tree} {f x y : Forest} → Takes γ p (only t) x → TakesEach γ p f y → TakesEach γ p (cons t f) (x ⊕ y)
+
+-- ---- typing: τ :: n ⇒ τ′ (appendix A)
+
+-- a type whose top is an atom
+pub data Atomic : Ty → Type 0 where
+  is-text : Atomic Ty.text
+  is-bool : Atomic Ty.bool
+  is-label : {n : ℕ} {τ : Ty} → Atomic (Ty.label n τ)
+  is-name : {x : ℕ} → Atomic (Ty.name x)
+
+pub data Picks (names : ℕ → Named) (l : ℕ) : Ty → Ty → Type 0 where
+  p-empty : Picks names l Ty.empty Ty.empty
+  p-kept : {α : Ty} → Atomic α → tests (Test.label l) (atomOf names α) ≡ matched → Picks names l α α
+  p-away : {α : Ty} → Atomic α → tests (Test.label l) (atomOf names α) ≡ passed → Picks names l α Ty.empty
+  p-seq : {τ τ′ σ σ′ : Ty} → Picks names l τ σ → Picks names l τ′ σ′ → Picks names l (Ty.seq τ τ′) (Ty.seq σ σ′)
+  p-choice : {τ τ′ σ σ′ : Ty} → Picks names l τ σ → Picks names l τ′ σ′ → Picks names l (Ty.choice τ τ′) (Ty.choice σ σ′)
+  p-star : {τ σ : Ty} → Picks names l τ σ → Picks names l (Ty.star τ) (Ty.star σ)
+
+module _ (S : Script) where
+  -- ---- Γ ⊢ e : τ (figure 13), and x̄ in τ → e (appendix A)
+  mutual
+    pub data Has : Types → ℕ → Ty → Type 0 where
+      h-empty : {Γ : Types} {i : ℕ} → queryAt S i ≡ Query.empty → Has Γ i Ty.empty
+      h-join : {Γ : Types} {i p q : ℕ} {τ σ : Ty} → queryAt S i ≡ Query.join p q → Has Γ p τ → Has Γ q σ → Has Γ i (Ty.seq τ σ)
+      h-tree : {Γ : Types} {i n q : ℕ} {τ : Ty} → queryAt S i ≡ Query.tree n q → Has Γ q τ → Has Γ i (Ty.label n τ)
+      h-text : {Γ : Types} {i p q : ℕ} → queryAt S i ≡ Query.text p q → Has Γ i Ty.text
+      h-bool : {Γ : Types} {i : ℕ} {b : Bool} → queryAt S i ≡ Query.bool b → Has Γ i Ty.bool
+      h-variable : {Γ : Types} {i v : ℕ} {τ : Ty} → queryAt S i ≡ Query.variable v → getD Γ v Ty.empty ≡ τ → Has Γ i τ
+      h-let : {Γ : Types} {i p q : ℕ} {τ σ : Ty} → queryAt S i ≡ Query.letin p q → Has Γ p τ → Has (Γ ++ τ ∷ []) q σ → Has Γ i σ
+      h-if : {Γ : Types} {i p q r : ℕ} {c τ σ : Ty} → queryAt S i ≡ Query.if p q r → Has Γ p c → Within (namesIn S) c Ty.bool → Has Γ q τ → Has Γ r σ → Has Γ i (Ty.choice τ σ)
+      h-same : {Γ : Types} {i p q : ℕ} {τ σ : Ty} → queryAt S i ≡ Query.same p q → Has Γ p τ → Has Γ q σ → Within (namesIn S) τ Ty.text → Within (namesIn S) σ Ty.text → Has Γ i Ty.bool
+      h-children : {Γ : Types} {i v n : ℕ} {τ : Ty} → queryAt S i ≡ Query.children v → atomOf (namesIn S) (getD Γ v Ty.empty) ≡ Atom.label n τ → Has Γ i τ
+      h-pick : {Γ : Types} {i p l : ℕ} {τ σ : Ty} → queryAt S i ≡ Query.pick p l → Has Γ p τ → Picks (namesIn S) l τ σ → Has Γ i σ
+      h-for : {Γ : Types} {i p q : ℕ} {τ σ : Ty} → queryAt S i ≡ Query.for p q → Has Γ p τ → HasEach Γ q τ σ → Has Γ i σ
+
+    pub data HasEach : Types → ℕ → Ty → Ty → Type 0 where
+      e-empty : {Γ : Types} {q : ℕ} → HasEach Γ q Ty.empty Ty.empty
+      e-atom : {Γ : Types} {q : ℕ} {α σ : Ty} → Atomic α → Has (Γ ++ α ∷ []) q σ → HasEach Γ q α σ
+      e-seq : {Γ : Types} {q : ℕ} {τ τ′ σ σ′ : Ty} → HasEach Γ q τ σ → HasEach Γ q τ′ σ′ → HasEach Γ q (Ty.seq τ τ′) (Ty.seq σ σ′)
+      e-choice : {Γ : Types} {q : ℕ} {τ τ′ σ σ′ : Ty} → HasEach Γ q τ σ → HasEach Γ q τ′ σ′ → HasEach Γ q (Ty.choice τ τ′) (Ty.choice σ σ′)
+      e-star : {Γ : Types} {q : ℕ} {τ σ : Ty} → HasEach Γ q τ σ → HasEach Γ q (Ty.star τ) (Ty.star σ)
+
+  -- a call's queries have types
+  pub data HasAll (Γ : Types) : List ℕ → List Ty → Type 0 where
+    has-none : HasAll Γ [] []
+    has-more : {q : ℕ} {l : List ℕ} {τ : Ty} {m : List Ty} → Has Γ q τ → HasAll Γ l m → HasAll Γ (q ∷ l) (τ ∷ m)
+
+  -- and these lie in the declared ones, one by one
+  pub data Lie : List Ty → List Ty → Type 0 where
+    lie-none : Lie [] []
+    lie-more : {σ τ : Ty} {l m : List Ty} → Within (namesIn S) σ τ → Lie l m → Lie (σ ∷ l) (τ ∷ m)
+
+  -- ---- Γ ⊢ {τ} s {τ′} and iter (figure 4)
+  mutual
+    pub data Typed : Types → ℕ → Ty → Ty → Type 0 where
+      y-skip : {Γ : Types} {i : ℕ} {τ : Ty} → statementAt S i ≡ Statement.skip → Typed Γ i τ τ
+      y-then : {Γ : Types} {i p q : ℕ} {τ σ ρ : Ty} → statementAt S i ≡ Statement.then p q → Typed Γ p τ σ → Typed Γ q σ ρ → Typed Γ i τ ρ
+      y-if : {Γ : Types} {i p q r : ℕ} {c τ σ ρ : Ty} → statementAt S i ≡ Statement.if p q r → Has Γ p c → Within (namesIn S) c Ty.bool → Typed Γ q τ σ → Typed Γ r τ ρ → Typed Γ i τ (Ty.choice σ ρ)
+      y-insert : {Γ : Types} {i p : ℕ} {τ σ : Ty} → statementAt S i ≡ Statement.insert p → Within (namesIn S) τ Ty.empty → Has Γ p σ → Typed Γ i τ σ
+      y-delete : {Γ : Types} {i : ℕ} {τ : Ty} → statementAt S i ≡ Statement.delete → Typed Γ i τ Ty.empty
+      y-rename : {Γ : Types} {i l n : ℕ} {α τ : Ty} → statementAt S i ≡ Statement.rename l → atomOf (namesIn S) α ≡ Atom.label n τ → Typed Γ i α (Ty.label l τ)
+      y-let : {Γ : Types} {i p q : ℕ} {ρ τ σ : Ty} → statementAt S i ≡ Statement.letin p q → Has Γ p ρ → Typed (Γ ++ ρ ∷ []) q τ σ → Typed Γ i τ σ
+      y-snapshot : {Γ : Types} {i p : ℕ} {τ σ : Ty} → statementAt S i ≡ Statement.snapshot p → Typed (Γ ++ τ ∷ []) p τ σ → Typed Γ i τ σ
+      y-test : {Γ : Types} {i r : ℕ} {t : Test} {τ σ : Ty} → statementAt S i ≡ Statement.test t r → tests t (atomOf (namesIn S) τ) ≡ matched → Typed Γ r τ σ → Typed Γ i τ σ
+      y-pass : {Γ : Types} {i r : ℕ} {t : Test} {τ : Ty} → statementAt S i ≡ Statement.test t r → tests t (atomOf (namesIn S) τ) ≡ passed → Typed Γ i τ τ
+      y-children : {Γ : Types} {i p n : ℕ} {α τ σ : Ty} → statementAt S i ≡ Statement.children p → atomOf (namesIn S) α ≡ Atom.label n τ → Typed Γ p τ σ → Typed Γ i α (Ty.label n σ)
+      y-left : {Γ : Types} {i p : ℕ} {τ σ : Ty} → statementAt S i ≡ Statement.left p → Typed Γ p Ty.empty σ → Typed Γ i τ (Ty.seq σ τ)
+      y-right : {Γ : Types} {i p : ℕ} {τ σ : Ty} → statementAt S i ≡ Statement.right p → Typed Γ p Ty.empty σ → Typed Γ i τ (Ty.seq τ σ)
+      y-iter : {Γ : Types} {i p : ℕ} {τ σ : Ty} → statementAt S i ≡ Statement.iter p → TypedEach Γ p τ σ → Typed Γ i τ σ
+      y-call : {Γ : Types} {i c : ℕ} {l : List ℕ} {m : List Ty} {τ σ : Ty} → statementAt S i ≡ Statement.call c l → Within (namesIn S) τ (declaration S c .input) → HasAll Γ l m → Lie m (declaration S c .parameters) → declaration S c .output ≡ σ → Typed Γ i τ σ
+
+    pub data TypedEach : Types → ℕ → Ty → Ty → Type 0 where
+      i-empty : {Γ : Types} {p : ℕ} → TypedEach Γ p Ty.empty Ty.empty
+      i-atom : {Γ : Types} {p : ℕ} {α σ : Ty} → Atomic α → Typed Γ p α σ → TypedEach Γ p α σ
+      i-seq : {Γ : Types} {p : ℕ} {τ τ′ σ σ′ : Ty} → TypedEach Γ p τ σ → TypedEach Γ p τ′ σ′ → TypedEach Γ p (Ty.seq τ τ′) (Ty.seq σ σ′)
+      i-choice : {Γ : Types} {p : ℕ} {τ τ′ σ σ′ : Ty} → TypedEach Γ p τ σ → TypedEach Γ p τ′ σ′ → TypedEach Γ p (Ty.choice τ τ′) (Ty.choice σ σ′)
+      i-star : {Γ : Types} {p : ℕ} {τ σ : Ty} → TypedEach Γ p τ σ → TypedEach Γ p (Ty.star τ) (Ty.star σ)
+
+  -- ---- ⊢ Δ: a body, or main, computes a type that lies in the declared one
+  pub record Passes (Γ : Types) (i : ℕ) (τ σ : Ty) : Type 0 where
+    pub output : Ty
+    pub typed : Typed Γ i τ output
+    pub lies : Within (namesIn S) output σ
+
+  -- every procedure keeps its declaration, and main takes A into B
+  pub record Accepts : Type 0 where
+    pub procedures : (c : ℕ) → 1 ≤ c → c ≤ S .procedures → Passes (declaration S c .parameters) (S .procedureRow c .body) (declaration S c .input) (declaration S c .output)
+    pub main : Passes [] (S .main) (declared S (S .a)) (declared S (S .b))
