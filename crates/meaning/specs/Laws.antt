@@ -3,3 +3,12 @@ pub mod Bools
 pub mod Tests
 pub mod Forest
 pub mod Walk
+pub mod Barren
+pub mod Pairs
+pub mod Models
+pub mod Words
+pub mod Rows
+pub mod Wired
+pub mod Sure
+pub mod Apart
+pub mod Passes

@@ -1,2 +1,11 @@
 -- The theorems: walks and figures, soundness, steadiness, one result, round trips, and the worked examples.
 pub mod Worked
+pub mod ExactCheck
+pub mod Single
+pub mod ReadBack
+pub mod ExactRun
+pub mod Steady
+pub mod Trip
+pub mod Places
+pub mod Sound
+pub mod Within

@@ -1,0 +1,403 @@
+-- More fuel, same answer: what a run gives and what a check says stays, with its units, under every greater fuel up to the limit. By `steady` of walks, and because the tables are the same.
+use Prim.Native.Nat.{ℕ, _+_, _*_, _-_, _/_, _%_, _≤_, _<_}
+use mathlib.Core.Path.{_≡_, refl, _∙_, ap, ap₂, fun-ext}
+use mathlib.Core.Bool.{Bool, true, false, _&&_, cond, false≢true}
+use mathlib.Core.List.{List}
+use native.Mathlib.Omega.{arith}
+use lib.Dec.{leb}
+use lib.ListN.{getD, length, set, length-set}
+use lib.Seq.{getD-set-same, getD-set-other}
+use borrow.Author.Tests.{leb-true, le-leb}
+use Rattle.meaning.specs.Limits.{most-names, most-rows, most-procedures, most-forest-rows, most-pool, most-fuel, header-words, type-words, row-words, procedure-words}
+use Rattle.meaning.specs.Words.{wordAt, rowsLent}
+use Rattle.meaning.specs.Tests.{inTable}
+use Rattle.meaning.specs.Sheet.{blank, no-procedure, Script, Grove, Sheet, row3, row4, row5, scriptOf, groveOf, sheetOf, names-of, types-of, queries-of, statements-of, procedures-of, rows-of, types-at, queries-at, statements-at, procedures-at, rows-at, pool-at, need}
+use Rattle.meaning.specs.Forest.{Forest}
+use Rattle.meaning.specs.Types.{Ty, namesIn}
+use Rattle.meaning.specs.Walk.{Verdict, gives, stops, Settles, Quiet, Unasked, settle}
+use Rattle.meaning.specs.Walk as walk
+use Rattle.meaning.specs.Run.{run-walk}
+use Rattle.meaning.specs.Check.{Judged, check-walk}
+use Rattle.meaning.specs.Shape.{Use, wordOk, types-ok, queries-ok, statements-ok, rows-ok, names-ok, procedures-ok, roots-ok, limits-ok, type-users, query-users, statement-users, row-users, users-ok, scope-ok, shaped, whole}
+use Rattle.meaning.specs.Reply.{Refusal, block, shape, barren, tie, fuel, depth, wide, mismatch, outside, unfit, stuck, scratch, room, Answer, done, refused, verdict-answer, Loads, misshapen, is-barren, is-tied, sound, Checked, walked, Ran, gave, Reply, RunReply, CheckReply}
+use Rattle.meaning.specs.Laws.Bools.{and-left, and-right, and-both}
+use Rattle.meaning.specs.Laws.Tests.{table-low, table-high}
+use Rattle.meaning.specs.Laws.Walk.{Other, steady, within-purse, settle-settles, settles-settle}
+use Rattle.meaning.specs.Theorems.Single.{one-check, one-run}
+
+-- ---- a run that gave a forest
+
+-- more units in the purse: the same forest, and as many more left
+gives-more : (w w′ : Quiet Forest) (n m : ℕ) (f : Forest) → w′ ≡ w → n ≤ m → settle w n .verdict ≡ gives f → (settle w′ m .verdict ≡ gives f) × (settle w′ m .left + n ≡ settle w n .left + m)
+gives-more w w′ n m f same more e =
+    let t : Settles Unasked w n (gives f) (settle w n .left) = rw e at (settle-settles w n) in
+    let k : n + (m - n) ≡ m = omega arith in
+    let r = settles-settle w (n + (m - n)) _ _ (steady Unasked (m - n) t tt) in
+    rw (same, ← k) (r .0, omega (arith, r .1))
+
+-- what a check's walk may say, but for Fuel: 0, 6, 7, 8 and 9
+abbrev pub Says : Answer → Type 0
+Says done = Unit {0}
+Says (refused block) = ⊥
+Says (refused shape) = ⊥
+Says (refused (barren x)) = ⊥
+Says (refused (tie a b)) = ⊥
+Says (refused fuel) = ⊥
+Says (refused depth) = Unit {0}
+Says (refused (wide at)) = Unit {0}
+Says (refused (mismatch at)) = Unit {0}
+Says (refused (outside at)) = Unit {0}
+Says (refused unfit) = ⊥
+Says (refused (stuck at)) = ⊥
+Says (refused scratch) = ⊥
+Says (refused room) = ⊥
+
+no-load : {s : List ℕ} {r : Refusal} → Loads s (refused r) → Says (refused r) → ⊥
+no-load (misshapen e) o = o
+no-load (is-barren e b) o = o
+no-load (is-tied e n t) o = o
+
+says-other : (v : Verdict Ty) → Says (verdict-answer v) → Other v
+says-other (gives τ) o = tt
+says-other walk.Verdict.fuel o = o
+says-other (stops h) o = tt
+
+says-loads : {s work : List ℕ} {a : Answer} {u : ℕ} → Checked s work a u → Says a → Loads s done
+says-loads (Checked.unsound l) o = absurd (no-load l o)
+says-loads (Checked.no-scratch l n) o = absurd o
+says-loads (walked l n t e d) o = l
+
+ran-loads : {s work result after : List ℕ} {u root : ℕ} → Ran s work result done u root after → Loads s done
+ran-loads (gave l n g d x y z) = l
+
+module _ (s s′ : List ℕ) (script : scriptOf s′ ≡ scriptOf s) where
+  module _ (grove : groveOf s′ ≡ groveOf s) where
+    same-walk : run-walk (sheetOf s′) ≡ run-walk (sheetOf s)
+    unfolding run-walk sheetOf
+    same-walk = rw (script, grove)
+
+    -- M-15, M-16: the same rows, root and units, if the working rows suffice
+    pub steady-run : {work work′ result after : List ℕ} {u root : ℕ} → Ran s work result done u root after → sheetOf s .runFuel ≤ sheetOf s′ .runFuel → Loads s′ done → groveOf s′ .rows + sheetOf s′ .runFuel ≤ rowsLent work′
+        → Ran s′ work′ result done u root after
+    steady-run (gave {f = f} {units = u} l n g d x y z) more loads lent =
+        let k = gives-more (run-walk (sheetOf s)) (run-walk (sheetOf s′)) (sheetOf s .runFuel) (sheetOf s′ .runFuel) f same-walk more g in
+        gave {units = u} loads lent (k .0) (omega (arith, k .1)) x y z
+
+    -- and every reply is that one
+    pub steady-replies : {work work′ result : List ℕ} {R R′ : Reply} → RunReply s work result R → R .answer ≡ done → sheetOf s .runFuel ≤ sheetOf s′ .runFuel → Loads s′ done → groveOf s′ .rows + sheetOf s′ .runFuel ≤ rowsLent work′
+        → RunReply s′ work′ result R′ → (R′ .answer ≡ done) × (R′ .runUnits ≡ R .runUnits) × (R′ .root ≡ R .root) × (R′ .result ≡ R .result)
+    steady-replies {work′ = work′} {result = result} r a more loads lent r′ = one-run s′ work′ result (r′ .said) (steady-run (rw a at (r .said)) more loads lent)
+
+  -- ---- a check's verdict
+
+  settles-more : {n m l : ℕ} {v : Verdict Ty} → Settles (Judged (namesIn (scriptOf s))) (check-walk (scriptOf s)) n v l → Other v → n ≤ m → Settles (Judged (namesIn (scriptOf s′))) (check-walk (scriptOf s′)) m v (l + (m - n))
+  settles-more {n} {m} {v = v} t o more =
+      let k : n + (m - n) ≡ m = omega arith in
+      let r = steady (Judged (namesIn (scriptOf s))) (m - n) t o in
+      rw script (rw k at r)
+
+  -- M-17: with its values and units, on the same terms
+  pub steady-check : {work work′ : List ℕ} {a : Answer} {u : ℕ} → Checked s work a u → Says a → sheetOf s .checkFuel ≤ sheetOf s′ .checkFuel → Loads s′ done → sheetOf s′ .checkFuel ≤ rowsLent work′
+      → Checked s′ work′ a u
+  steady-check (Checked.unsound l) o more loads lent = absurd (no-load l o)
+  steady-check (Checked.no-scratch l n) o more loads lent = absurd o
+  steady-check (walked {units = u} {v = v} l n t e d) o more loads lent =
+      walked {units = u} loads lent (settles-more t (says-other v (rw (← e) at o)) more) e (omega (arith, within-purse (Judged (namesIn (scriptOf s))) t))
+
+  pub steady-check-replies : {work work′ : List ℕ} {R R′ : Reply} → CheckReply s work R → Says (R .answer) → sheetOf s .checkFuel ≤ sheetOf s′ .checkFuel → Loads s′ done → sheetOf s′ .checkFuel ≤ rowsLent work′
+      → CheckReply s′ work′ R′ → (R′ .answer ≡ R .answer) × (R′ .checkUnits ≡ R .checkUnits)
+  steady-check-replies {work′ = work′} r o more loads lent r′ = one-check s′ work′ (r′ .said) (steady-check (r .said) o more loads lent)
+
+-- ---- Shape asks of the fuels only that they are within the limit
+
+abbrev sheet : Script → Grove → ℕ → ℕ → Sheet
+sheet S G c r = record { script = S; grove = G; checkFuel = c; runFuel = r }
+
+-- the first of ten tests for another
+other-first : (k l t q m r n p o u c : Bool) → k && t && q && m && r && n && p && o && u && c ≡ true → (k ≡ true → l ≡ true) → l && t && q && m && r && n && p && o && u && c ≡ true
+other-first true l t q m r n p o u c e h = rw (h refl) e
+other-first false l t q m r n p o u c e h = absurd (false≢true e)
+
+abbrev counts-ok : Script → Grove → Bool
+counts-ok S G = leb (S .names) most-names && leb (S .types) most-rows && leb (S .queries) most-rows && leb (S .statements) most-rows
+    && leb (S .procedures) most-procedures && leb (G .rows) most-forest-rows && leb (G .pool) most-pool
+
+module _ (S : Script) (G : Grove) (c r c′ r′ : ℕ) where
+  words-same : (u : Use) (i w : ℕ) → wordOk (sheet S G c r) u i w ≡ wordOk (sheet S G c′ r′) u i w
+  unfolding wordOk
+  words-same Use.unused i w = refl
+  words-same Use.free i w = refl
+  words-same Use.label i w = refl
+  words-same Use.part i w = refl
+  words-same Use.link i w = refl
+  words-same Use.query i w = refl
+  words-same Use.name i w = refl
+  words-same Use.procedure i w = refl
+  words-same Use.tester i w = refl
+  words-same (Use.size-at o) i w = refl
+
+  within-limit : c′ ≤ most-fuel → r′ ≤ most-fuel → limits-ok (sheet S G c r) ≡ true → limits-ok (sheet S G c′ r′) ≡ true
+  unfolding limits-ok
+  within-limit h k e = and-both (counts-ok S G && leb c′ most-fuel) (leb r′ most-fuel)
+      (and-both (counts-ok S G) (leb c′ most-fuel) (and-left (counts-ok S G) (leb c most-fuel) (and-left (counts-ok S G && leb c most-fuel) (leb r most-fuel) e)) (le-leb c′ most-fuel h)) (le-leb r′ most-fuel k)
+
+  types-too : types-ok (sheet S G c r) ≡ types-ok (sheet S G c′ r′)
+  unfolding types-ok
+  types-too = simp words-same
+
+  queries-too : queries-ok (sheet S G c r) ≡ queries-ok (sheet S G c′ r′)
+  unfolding queries-ok
+  queries-too = simp words-same
+
+  statements-too : statements-ok (sheet S G c r) ≡ statements-ok (sheet S G c′ r′)
+  unfolding statements-ok
+  statements-too = simp words-same
+
+  rows-too : rows-ok (sheet S G c r) ≡ rows-ok (sheet S G c′ r′)
+  unfolding rows-ok
+  rows-too = simp words-same
+
+  other-fuels : shaped (sheet S G c r) ≡ true → c′ ≤ most-fuel → r′ ≤ most-fuel → shaped (sheet S G c′ r′) ≡ true
+  unfolding names-ok procedures-ok roots-ok users-ok type-users query-users statement-users row-users
+  other-fuels e h k = other-first (limits-ok (sheet S G c r)) (limits-ok (sheet S G c′ r′)) (types-ok (sheet S G c′ r′)) (queries-ok (sheet S G c′ r′)) (statements-ok (sheet S G c′ r′)) (rows-ok (sheet S G c′ r′))
+      (names-ok (sheet S G c r)) (procedures-ok (sheet S G c r)) (roots-ok (sheet S G c r)) (users-ok (sheet S G c r)) (scope-ok S) (rw (types-too, queries-too, statements-too, rows-too) at e) (within-limit h k)
+
+-- ---- sheets with the same tables, whatever their forests and fuels
+
+-- the header's words but for forest rows, pool, root and fuels, and the tables
+pub record SameTables (s s′ : List ℕ) : Type 0 where
+  pub header : (j : ℕ) → j < 10 → ¬ (j ≡ 5) → ¬ (j ≡ 6) → wordAt s′ j ≡ wordAt s j
+  pub tables : (j : ℕ) → 13 ≤ j → j < rows-at s → wordAt s′ j ≡ wordAt s j
+
+-- a name's word, as `scriptOf` reads it
+abbrev row1 : List ℕ → ℕ → ℕ → ℕ → ℕ
+row1 s at n r = cond (inTable n r) (wordAt s (at + (r - 1))) 0
+
+-- tables within words that are the same, below word m
+module _ (s s′ : List ℕ) (m : ℕ) (word : (j : ℕ) → 13 ≤ j → j < m → wordAt s′ j ≡ wordAt s j) (at n : ℕ) (low : 13 ≤ at) where
+  rows3 : at + type-words * n ≤ m → row3 s′ at n ≡ row3 s at n
+  rows3 high = fun-ext λ r. go r (inTable n r) refl
+    where
+      go : (r : ℕ) (b : Bool) → inTable n r ≡ b → row3 s′ at n r ≡ row3 s at n r
+      go r true e = let l = table-low n r e in let h = table-high n r e in λ i. cond (inTable n r) (record {
+        kind = word (at + type-words * (r - 1)) (omega arith) (omega arith) i;
+        p = word (at + type-words * (r - 1) + 1) (omega arith) (omega arith) i;
+        q = word (at + type-words * (r - 1) + 2) (omega arith) (omega arith) i;
+        r = 0;
+      }) blank
+      go r false e = rw e
+
+  rows4 : at + row-words * n ≤ m → row4 s′ at n ≡ row4 s at n
+  rows4 high = fun-ext λ r. go r (inTable n r) refl
+    where
+      go : (r : ℕ) (b : Bool) → inTable n r ≡ b → row4 s′ at n r ≡ row4 s at n r
+      go r true e = let l = table-low n r e in let h = table-high n r e in λ i. cond (inTable n r) (record {
+        kind = word (at + row-words * (r - 1)) (omega arith) (omega arith) i;
+        p = word (at + row-words * (r - 1) + 1) (omega arith) (omega arith) i;
+        q = word (at + row-words * (r - 1) + 2) (omega arith) (omega arith) i;
+        r = word (at + row-words * (r - 1) + 3) (omega arith) (omega arith) i;
+      }) blank
+      go r false e = rw e
+
+  rows5 : at + procedure-words * n ≤ m → row5 s′ at n ≡ row5 s at n
+  rows5 high = fun-ext λ r. go r (inTable n r) refl
+    where
+      go : (r : ℕ) (b : Bool) → inTable n r ≡ b → row5 s′ at n r ≡ row5 s at n r
+      go r true e = let l = table-low n r e in let h = table-high n r e in λ i. cond (inTable n r) (record {
+        first = word (at + procedure-words * (r - 1)) (omega arith) (omega arith) i;
+        second = word (at + procedure-words * (r - 1) + 1) (omega arith) (omega arith) i;
+        input = word (at + procedure-words * (r - 1) + 2) (omega arith) (omega arith) i;
+        output = word (at + procedure-words * (r - 1) + 3) (omega arith) (omega arith) i;
+        body = word (at + procedure-words * (r - 1) + 4) (omega arith) (omega arith) i;
+      }) no-procedure
+      go r false e = rw e
+
+  rows1 : at + n ≤ m → row1 s′ at n ≡ row1 s at n
+  rows1 high = fun-ext λ r. go r (inTable n r) refl
+    where
+      go : (r : ℕ) (b : Bool) → inTable n r ≡ b → row1 s′ at n r ≡ row1 s at n r
+      go r true e = let l = table-low n r e in let h = table-high n r e in λ i. cond (inTable n r) (word (at + (r - 1)) (omega arith) (omega arith) i) 0
+      go r false e = rw e
+
+module _ (s s′ : List ℕ) (same : SameTables s s′) where
+  -- the counts, and where the tables begin
+  names-same : names-of s′ ≡ names-of s
+  names-same = same .header 0 (omega arith) (omega arith) (omega arith)
+
+  types-same : types-of s′ ≡ types-of s
+  types-same = same .header 1 (omega arith) (omega arith) (omega arith)
+
+  queries-same : queries-of s′ ≡ queries-of s
+  queries-same = same .header 2 (omega arith) (omega arith) (omega arith)
+
+  statements-same : statements-of s′ ≡ statements-of s
+  statements-same = same .header 3 (omega arith) (omega arith) (omega arith)
+
+  procedures-same : procedures-of s′ ≡ procedures-of s
+  procedures-same = same .header 4 (omega arith) (omega arith) (omega arith)
+
+  types-here : types-at s′ ≡ types-at s
+  types-here = λ i. header-words + names-same i
+
+  queries-here : queries-at s′ ≡ queries-at s
+  queries-here = λ i. types-here i + type-words * types-same i
+
+  statements-here : statements-at s′ ≡ statements-at s
+  statements-here = λ i. queries-here i + row-words * queries-same i
+
+  procedures-here : procedures-at s′ ≡ procedures-at s
+  procedures-here = λ i. statements-here i + row-words * statements-same i
+
+  rows-here : rows-at s′ ≡ rows-at s
+  rows-here = λ i. procedures-here i + procedure-words * procedures-same i
+
+  -- they have the same script
+  pub same-script : scriptOf s′ ≡ scriptOf s
+  unfolding scriptOf
+  same-script = λ i. record {
+    names = names-same i;
+    types = types-same i;
+    queries = queries-same i;
+    statements = statements-same i;
+    procedures = procedures-same i;
+    nameRow = (ap (row1 s′ header-words) names-same ∙ rows1 s s′ (rows-at s) (same .tables) header-words (names-of s) (omega arith) (omega arith)) i;
+    typeRow = (ap₂ (row3 s′) types-here types-same ∙ rows3 s s′ (rows-at s) (same .tables) (types-at s) (types-of s) (omega arith) (omega arith)) i;
+    queryRow = (ap₂ (row4 s′) queries-here queries-same ∙ rows4 s s′ (rows-at s) (same .tables) (queries-at s) (queries-of s) (omega arith) (omega arith)) i;
+    statementRow = (ap₂ (row4 s′) statements-here statements-same ∙ rows4 s s′ (rows-at s) (same .tables) (statements-at s) (statements-of s) (omega arith) (omega arith)) i;
+    procedureRow = (ap₂ (row5 s′) procedures-here procedures-same ∙ rows5 s s′ (rows-at s) (same .tables) (procedures-at s) (procedures-of s) (omega arith) (omega arith)) i;
+    a = same .header 7 (omega arith) (omega arith) (omega arith) i;
+    b = same .header 8 (omega arith) (omega arith) (omega arith) i;
+    main = same .header 9 (omega arith) (omega arith) (omega arith) i;
+  }
+
+-- ---- sheets that differ in their fuels only: words 11 and 12
+
+pub record Alike (s s′ : List ℕ) : Type 0 where
+  pub long : length s′ ≡ length s
+  pub low : (i : ℕ) → i < 22 → getD s′ i 0 ≡ getD s i 0
+  pub high : (i : ℕ) → 26 ≤ i → getD s′ i 0 ≡ getD s i 0
+
+module _ (s s′ : List ℕ) (alike : Alike s s′) where
+  low : (j : ℕ) → j < 11 → wordAt s′ j ≡ wordAt s j
+  low j h = ap₂ (λ x y. x + 256 * y) (alike .low (2 * j) (omega arith)) (alike .low (2 * j + 1) (omega arith))
+
+  high : (j : ℕ) → 13 ≤ j → wordAt s′ j ≡ wordAt s j
+  high j h = ap₂ (λ x y. x + 256 * y) (alike .high (2 * j) (omega arith)) (alike .high (2 * j + 1) (omega arith))
+
+  alike-tables : SameTables s s′
+  alike-tables = record { header = λ j h p q. low j (omega arith); tables = λ j h k. high j h }
+
+  pub alike-script : scriptOf s′ ≡ scriptOf s
+  alike-script = same-script s s′ alike-tables
+
+  pool-here : pool-at s′ ≡ pool-at s
+  pool-here = λ i. rows-here s s′ alike-tables i + row-words * low 5 (omega arith) i
+
+  pub alike-grove : groveOf s′ ≡ groveOf s
+  unfolding groveOf
+  alike-grove = λ i. record {
+    rows = low 5 (omega arith) i;
+    row = (ap₂ (row4 s′) (rows-here s s′ alike-tables) (low 5 (omega arith)) ∙ rows4 s s′ (pool-at s) (λ j h k. high j h) (rows-at s) (rows-of s) (omega arith) (omega arith)) i;
+    pool = low 6 (omega arith) i;
+    byte = λ k. (alike .high (2 * pool-at s′ + k) (omega arith) ∙ ap (λ p. getD s (2 * p + k) 0) pool-here) i;
+    root = low 10 (omega arith) i;
+  }
+
+  need-same : need s′ ≡ need s
+  need-same = λ i. 2 * pool-here i + low 6 (omega arith) i
+
+  -- and so they load alike, if the fuels are within the limit
+  pub alike-loads : Loads s done → sheetOf s′ .checkFuel ≤ most-fuel → sheetOf s′ .runFuel ≤ most-fuel → Loads s′ done
+  unfolding sheetOf
+  alike-loads (sound e n u) c r = sound
+      (and-both (whole s′) (shaped (sheetOf s′)) (rw (need-same, alike .long) (and-left (whole s) (shaped (sheetOf s)) e))
+      (rw (alike-script, alike-grove) (other-fuels (scriptOf s) (groveOf s) _ _ (wordAt s′ 11) (wordAt s′ 12) (and-right (whole s) (shaped (sheetOf s)) e) c r)))
+      (rw alike-script n) (rw alike-script u)
+
+-- ---- a sheet with another fuel
+
+-- word k of s replaced
+abbrev pub withWord : List ℕ → ℕ → ℕ → List ℕ
+withWord s k w = set (set s (2 * k) (w % 256)) (2 * k + 1) (w / 256 % 256)
+
+abbrev pub withCheckFuel : List ℕ → ℕ → List ℕ
+withCheckFuel s w = withWord s 11 w
+
+abbrev pub withRunFuel : List ℕ → ℕ → List ℕ
+withRunFuel s w = withWord s 12 w
+
+module _ (s : List ℕ) (k w : ℕ) where
+  with-length : length (withWord s k w) ≡ length s
+  with-length = simp length-set
+
+  with-other : (i : ℕ) → ¬ (i ≡ 2 * k) → ¬ (i ≡ 2 * k + 1) → getD (withWord s k w) i 0 ≡ getD s i 0
+  with-other i p q = getD-set-other (set s (2 * k) (w % 256)) (2 * k + 1) i (w / 256 % 256) 0 q ∙ getD-set-other s (2 * k) i (w % 256) 0 p
+
+  with-same : 2 * k + 1 < length s → w < 65536 → wordAt (withWord s k w) k ≡ w
+  with-same long small =
+      let low : getD (withWord s k w) (2 * k) 0 ≡ w % 256 = getD-set-other (set s (2 * k) (w % 256)) (2 * k + 1) (2 * k) (w / 256 % 256) 0 (omega arith) ∙ getD-set-same s (2 * k) (w % 256) 0 (omega arith) in
+      let high : getD (withWord s k w) (2 * k + 1) 0 ≡ w / 256 % 256 = getD-set-same (set s (2 * k) (w % 256)) (2 * k + 1) (w / 256 % 256) 0 (rw length-set long) in
+      omega arith
+
+  with-alike : 11 ≤ k → k ≤ 12 → Alike s (withWord s k w)
+  with-alike p q = record {
+    long = with-length;
+    low = λ i h. with-other i (omega arith) (omega arith);
+    high = λ i h. with-other i (omega arith) (omega arith);
+  }
+
+-- a sheet that loads has its header, and its fuels are within the limit
+loads-header : {s : List ℕ} → Loads s done → 26 ≤ length s
+loads-header {s} (sound e n u) = omega (arith, leb-true (need s) (length s) (and-left (whole s) (shaped (sheetOf s)) e))
+
+loads-within : {s : List ℕ} → Loads s done → (wordAt s 11 ≤ most-fuel) × (wordAt s 12 ≤ most-fuel)
+unfolding limits-ok sheetOf
+loads-within {s} (sound e n u) =
+    let l : limits-ok (sheetOf s) ≡ true = search (and-left, and-right) depth 14 in
+    (leb-true (wordAt s 11) most-fuel (search (and-left, and-right)), leb-true (wordAt s 12) most-fuel (search (and-left, and-right)))
+
+module _ (s : List ℕ) (loads : Loads s done) (w : ℕ) (limit : w ≤ most-fuel) where
+  pub run-alike : Alike s (withRunFuel s w)
+  run-alike = with-alike s 12 w (omega arith) (omega arith)
+
+  pub check-alike : Alike s (withCheckFuel s w)
+  check-alike = with-alike s 11 w (omega arith) (omega arith)
+
+  pub run-fuel-is : sheetOf (withRunFuel s w) .runFuel ≡ w
+  unfolding sheetOf
+  run-fuel-is = with-same s 12 w (omega (arith, loads-header loads)) (omega arith)
+
+  pub check-fuel-is : sheetOf (withCheckFuel s w) .checkFuel ≡ w
+  unfolding sheetOf
+  check-fuel-is = with-same s 11 w (omega (arith, loads-header loads)) (omega arith)
+
+  -- the other fuel is the same
+  pub check-fuel-stays : sheetOf (withRunFuel s w) .checkFuel ≡ sheetOf s .checkFuel
+  unfolding sheetOf
+  check-fuel-stays = ap₂ (λ x y. x + 256 * y) (with-other s 12 w 22 (omega arith) (omega arith)) (with-other s 12 w 23 (omega arith) (omega arith))
+
+  pub run-fuel-stays : sheetOf (withCheckFuel s w) .runFuel ≡ sheetOf s .runFuel
+  unfolding sheetOf
+  run-fuel-stays = ap₂ (λ x y. x + 256 * y) (with-other s 11 w 24 (omega arith) (omega arith)) (with-other s 11 w 25 (omega arith) (omega arith))
+
+  pub run-fuel-loads : Loads (withRunFuel s w) done
+  unfolding sheetOf
+  run-fuel-loads = let k = loads-within loads in alike-loads s (withRunFuel s w) run-alike loads (rw check-fuel-stays (k .0)) (rw run-fuel-is limit)
+
+  pub check-fuel-loads : Loads (withCheckFuel s w) done
+  unfolding sheetOf
+  check-fuel-loads = let k = loads-within loads in alike-loads s (withCheckFuel s w) check-alike loads (rw check-fuel-is limit) (rw run-fuel-stays (k .1))
+
+-- ---- so: every greater fuel up to the limit
+
+pub every-run-fuel : {s work result after : List ℕ} {u root : ℕ} (work′ : List ℕ) (w : ℕ) → Ran s work result done u root after → sheetOf s .runFuel ≤ w → w ≤ most-fuel → groveOf s .rows + w ≤ rowsLent work′
+    → Ran (withRunFuel s w) work′ result done u root after
+every-run-fuel {s} work′ w r more limit lent =
+    let l = ran-loads r in let g = alike-grove s (withRunFuel s w) (run-alike s l w limit) in let k = run-fuel-is s l w limit in
+    steady-run s (withRunFuel s w) (alike-script s (withRunFuel s w) (run-alike s l w limit)) g r (rw k more) (run-fuel-loads s l w limit) (rw (g, k) lent)
+
+pub every-check-fuel : {s work : List ℕ} {a : Answer} {u : ℕ} (work′ : List ℕ) (w : ℕ) → Checked s work a u → Says a → sheetOf s .checkFuel ≤ w → w ≤ most-fuel → w ≤ rowsLent work′
+    → Checked (withCheckFuel s w) work′ a u
+every-check-fuel {s} work′ w c o more limit lent =
+    let l = says-loads c o in let k = check-fuel-is s l w limit in
+    steady-check s (withCheckFuel s w) (alike-script s (withCheckFuel s w) (check-alike s l w limit)) c o (rw k more) (check-fuel-loads s l w limit) (rw k lent)

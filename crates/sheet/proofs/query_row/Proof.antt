@@ -1,0 +1,21 @@
+-- `sheet::query_row` meets its contract: the layout is the sheet's.
+use mathlib.Core.Path.{_≡_, refl, sym, _∙_}
+use native.Mathlib.Omega.{arith}
+use Rattle.sheet.specs.Laid.{query-table}
+use borrow.Author.Needs.{needs}
+use Rattle.sheet.proofs.query_row.Statement.{statement}
+use Rattle.sheet.proofs.query_row.Tie as tie
+use Rattle.sheet.proofs.query_row.Reads as reads
+use Rattle.sheet.proofs.query_row.Lts as lts
+use Rattle.sheet.proofs.row_of_four.Reads as row-of-four-reads
+
+-- src/lib.rt:131:5
+row-of-four-requires : tie.Need-row-of-four-requires
+row-of-four-requires c κs = search needs
+
+-- src/lib.rt:127:1
+returns : tie.Need-returns
+returns c = c .row-of-four .ensures ∙ query-table (c .before .before .pre) (c .before .before .args .r)
+
+pub query-row-spec : {M : Type 1} → statement M
+query-row-spec = tie.close (tie.spec row-of-four-requires returns)

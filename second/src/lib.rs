@@ -1,0 +1,31 @@
+//! The second program: an independent reading of document 01, to compare the proved product with.
+//!
+//! | Document 01 | Module |
+//! |---|---|
+//! | Tables | `tables` (rows), `shape` (the rules), `forests` (forests as values and rows) |
+//! | Ties | `types` (atoms, heads, Barren), `places` (Tie, fit) |
+//! | How a run goes | `run`, with `purse` for units and depth |
+//! | How a check goes | `check`, with `inclusion` |
+//! | Refusals by number | `answers` |
+//! | Bundles | `bundles` |
+//!
+//! `notation` is the text people write. `cases` makes random bundles and `faults` damaged ones, from
+//! trees of `scripts` and numbers of `dice`; `compare` runs another program on them.
+
+pub mod answers;
+pub mod bundles;
+pub mod cases;
+pub mod check;
+pub mod compare;
+pub mod dice;
+pub mod faults;
+pub mod forests;
+pub mod inclusion;
+pub mod notation;
+pub mod places;
+pub mod purse;
+pub mod run;
+pub mod scripts;
+pub mod shape;
+pub mod tables;
+pub mod types;
