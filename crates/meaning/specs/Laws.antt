@@ -5,6 +5,7 @@ pub mod Forest
 pub mod Walk
 pub mod Barren
 pub mod Pairs
+pub mod Points
 pub mod Models
 pub mod Words
 pub mod Rows

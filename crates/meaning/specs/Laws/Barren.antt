@@ -1,6 +1,6 @@
 -- A marking of the names that is closed, and whose marks are all earned, marks exactly the names that are not barren: by induction on what is of a type.
 -- As many rounds of marking as there are names close it: a round that is not the last adds a mark.
-use Prim.Native.Nat.{ℕ, zero, suc, _+_, _≤_, _<_}
+use Prim.Native.Nat.{ℕ, zero, suc, _≤_, _<_}
 use mathlib.Core.Path.{_≡_, refl}
 use mathlib.Core.Bool.{Bool, true, false, _&&_, _||_, not, cond}
 use mathlib.Core.List.{[]}

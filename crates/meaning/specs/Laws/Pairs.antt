@@ -1,38 +1,17 @@
 -- Inclusion between two graphs of places, a found side and a wanted one: a closed relation of their states gives it; every pair of states that is reached from an included pair is included,
 -- where the found places live and the wanted states are free of ties; so it holds exactly if no reached pair is bad. By induction on forests, and on how a pair is reached.
-use Prim.Native.Nat.{ℕ, zero, suc, _≤_, _<_}
-use mathlib.Core.Path.{_≡_, refl, sym, _∙_, ap}
+use Prim.Native.Nat.{ℕ, _≤_}
+use mathlib.Core.Path.{_≡_, sym, _∙_}
 use mathlib.Core.Bool.{Bool, true, false, _&&_}
-use mathlib.Core.List.{List, [], _∷_, _++_, append-assoc}
 use mathlib.Core.Logic.{_⊎_, inl, inr, _↔_}
-use native.Mathlib.Omega.{arith}
-use lib.Dec.{eqb, ltb}
-use borrow.Author.Tests.{eqb-true, eq-eqb, ltb-true, lt-ltb}
 use Rattle.meaning.specs.Tests.{some}
 use Rattle.meaning.specs.Forest.{Tree, Forest, nil, cons}
 use Rattle.meaning.specs.Types.{Head}
-use Rattle.meaning.specs.Places.{Model, Word, w-empty, w-atom, w-seq, w-left, w-right, w-none, w-more, nullable, first, last, follows, Set, start, next, same-head}
-use Rattle.meaning.specs.Laws.Bools.{or-left, or-right, or-cases, and-left, and-right, and-both, either, not-both}
+use Rattle.meaning.specs.Places.{same-head}
+use Rattle.meaning.specs.Laws.Bools.{and-left, and-right, and-both, either, not-both}
 use Rattle.meaning.specs.Laws.Tests.{some-at, some-of}
-use Rattle.meaning.specs.Laws.Models.{no-cons, Stands, left, right, stands, first-word, last-word, follows-word}
-
-same-head-true : (g h : Head) → same-head g h ≡ true → g ≡ h
-unfolding same-head
-same-head-true Head.text Head.text e = refl
-same-head-true Head.text Head.bool e = cc
-same-head-true Head.text (Head.label n) e = cc
-same-head-true Head.bool Head.text e = cc
-same-head-true Head.bool Head.bool e = refl
-same-head-true Head.bool (Head.label n) e = cc
-same-head-true (Head.label m) Head.text e = cc
-same-head-true (Head.label m) Head.bool e = cc
-same-head-true (Head.label m) (Head.label n) e = ap Head.label (eqb-true m n e)
-
-pub same-head-refl : (h : Head) → same-head h h ≡ true
-unfolding same-head
-same-head-refl Head.text = refl
-same-head-refl Head.bool = refl
-same-head-refl (Head.label n) = eq-eqb n n refl
+use Rattle.meaning.specs.Laws.Models.{same-head-says}
+use Rattle.meaning.specs.Laws.Wired.{has}
 
 -- a graph of places: in each state a forest may end, and some places may stand; a place has a head there, a state inside it and one behind it
 pub record Side : Type 1 where
@@ -200,9 +179,9 @@ module _ (F W : Side) where
           go (inl e) = let z = some-of test top e in inl (
             z .0,
             and-left (W .has v (z .0)) (same-head (F .head u a) (W .head v (z .0))) (z .3),
-            same-head-true (F .head u a) (W .head v (z .0)) (and-right (W .has v (z .0)) (same-head (F .head u a) (W .head v (z .0))) (z .3)),
+            same-head-says (F .head u a) (W .head v (z .0)) .0 (and-right (W .has v (z .0)) (same-head (F .head u a) (W .head v (z .0))) (z .3)),
           )
-          go (inr e) = inr (bad-place a m (λ b k h. not-both (some-at test top b (low u v c b k .0) (low u v c b k .1) (and-both (W .has v b) (same-head (F .head u a) (W .head v b)) k (rw h (same-head-refl (W .head v b))))) e))
+          go (inr e) = inr (bad-place a m (λ b k h. not-both (some-at test top b (low u v c b k .0) (low u v c b k .1) (and-both (W .has v b) (same-head (F .head u a) (W .head v b)) k (same-head-says (F .head u a) (W .head v b) .1 h))) e))
 
       pub none-bad : NoneBad x y → Included x y
       none-bad none f = closed-included (Comes x y) closed f x y here
@@ -221,188 +200,95 @@ module _ (F W : Side) where
           → ((u : F .State) (v : W .State) → Comes x y u v → Free W v) → Included x y ↔ NoneBad x y
       decides lives free = (refutes lives free, none-bad)
 
-    -- ---- what a walk over pairs of places leaves when it ends
+  -- ---- what a walk over pairs of places leaves when it ends
 
-    module _ (seen : ℕ → ℕ → Bool) where
-      -- a pair of states has been looked at: each found place has a rival, and the two are marked
-      pub record Looked (u : F .State) (v : W .State) : Type 0 where
-        pub end : F .ends u ≡ true → W .ends v ≡ true
-        pub at : (a : ℕ) → F .has u a ≡ true → (b : ℕ) × (W .has v b ≡ true) × (F .head u a ≡ W .head v b) × (seen a b ≡ true)
+  -- a pair of states has been looked at: each found place has a rival, and the two are marked
+  pub record Looked (seen : ℕ → ℕ → Bool) (u : F .State) (v : W .State) : Type 0 where
+    pub end : F .ends u ≡ true → W .ends v ≡ true
+    pub at : (a : ℕ) → F .has u a ≡ true → (b : ℕ) × (W .has v b ≡ true) × (F .head u a ≡ W .head v b) × (seen a b ≡ true)
 
-      -- behind and inside each marked pair has been looked at: inclusion
-      pub ended : ((u : F .State) (v : W .State) (a b : ℕ) → Comes x y u v → F .has u a ≡ true → W .has v b ≡ true → F .head u a ≡ W .head v b → seen a b ≡ true
-          → Looked (F .after u a) (W .after v b) × ((n : ℕ) → F .head u a ≡ Head.label n → Looked (F .into u a) (W .into v b)))
-          → Looked x y → Included x y
-      ended all l f = closed-included (λ u v. Comes x y u v × Looked u v) closed f x y (here, l)
-        where
-          closed : Closed (λ u v. Comes x y u v × Looked u v)
-          closed = record {
-            end = λ u v r. r .1 .end;
-            place = λ u v r a m. (let z = r .1 .at a m in let k = all u v a (z .0) (r .0) m (z .1) (z .2) (z .3) in
-                (z .0, z .1, z .2, (λ n h. (inside n a (z .0) (r .0) m (z .1) (z .2) h, k .1 n h)), (behind a (z .0) (r .0) m (z .1) (z .2), k .0)));
-          }
+  -- behind and inside each marked pair has been looked at: inclusion
+  pub ended : (x : F .State) (y : W .State) (seen : ℕ → ℕ → Bool)
+      → ((u : F .State) (v : W .State) (a b : ℕ) → Comes x y u v → F .has u a ≡ true → W .has v b ≡ true → F .head u a ≡ W .head v b → seen a b ≡ true
+      → Looked seen (F .after u a) (W .after v b) × ((n : ℕ) → F .head u a ≡ Head.label n → Looked seen (F .into u a) (W .into v b)))
+      → Looked seen x y → Included x y
+  ended x y seen all l f = closed-included (λ u v. Comes x y u v × Looked seen u v) closed f x y (here, l)
+    where
+      closed : Closed (λ u v. Comes x y u v × Looked seen u v)
+      closed = record {
+        end = λ u v r. r .1 .end;
+        place = λ u v r a m. (let z = r .1 .at a m in let k = all u v a (z .0) (r .0) m (z .1) (z .2) (z .3) in
+            (z .0, z .1, z .2, (λ n h. (inside n a (z .0) (r .0) m (z .1) (z .2) h, k .1 n h)), (behind a (z .0) (r .0) m (z .1) (z .2), k .0)));
+      }
 
--- ---- the places of a model
+-- ---- two sides that go alike: what holds of the one holds of the other
 
--- each place of a model has P
-unfoldable pub Each : (ℕ → Type 0) → Model → Type 0
-Each P Model.empty = Unit {0}
-Each P (Model.atom a) = P a
-Each P (Model.seq m n) = Each P m × Each P n
-Each P (Model.choice m n) = Each P m × Each P n
-Each P (Model.star m) = Each P m
+module _ (Z X : Side) (M : Z .State → X .State → Type 0) where
+  pub record Alike : Type 0 where
+    pub ends : (z : Z .State) (x : X .State) → M z x → Z .ends z ≡ X .ends x
+    pub has : (z : Z .State) (x : X .State) → M z x → (a : ℕ) → Z .has z a ≡ X .has x a
+    pub head : (z : Z .State) (x : X .State) → M z x → (a : ℕ) → X .has x a ≡ true → Z .head z a ≡ X .head x a
+    pub into : (z : Z .State) (x : X .State) → M z x → (a n : ℕ) → X .has x a ≡ true → X .head x a ≡ Head.label n → M (Z .into z a) (X .into x a)
+    pub after : (z : Z .State) (x : X .State) → M z x → (a : ℕ) → X .has x a ≡ true → M (Z .after z a) (X .after x a)
 
-pub each-map : (P Q : ℕ → Type 0) → ((a : ℕ) → P a → Q a) → (m : Model) → Each P m → Each Q m
-unfolding Each
-each-map P Q g Model.empty h = tt
-each-map P Q g (Model.atom a) h = g a h
-each-map P Q g (Model.seq m n) h = (each-map P Q g m (h .0), each-map P Q g n (h .1))
-each-map P Q g (Model.choice m n) h = (each-map P Q g m (h .0), each-map P Q g n (h .1))
-each-map P Q g (Model.star m) h = each-map P Q g m h
+  module _ (alike : Alike) where
+    mutual
+      unfolding Suits Admitted
 
--- so each place of its words has
-each-word : (P : ℕ → Type 0) {m : Model} {w : List ℕ} → Word m w → Each P m → (l : List ℕ) (a : ℕ) (k : List ℕ) → w ≡ l ++ a ∷ k → P a
-unfolding Each
-each-word P w-empty h [] a k e = absurd (no-cons e)
-each-word P w-empty h (x ∷ l) a k e = absurd (no-cons e)
-each-word P (w-atom {a = b}) h [] a k e = let z : b ≡ a = cc in rw z at h
-each-word P (w-atom {a = b}) h (x ∷ []) a k e = let z : [] ≡ a ∷ k = cc in absurd (no-cons z)
-each-word P (w-atom {a = b}) h (x ∷ y ∷ l) a k e = let z : [] ≡ y ∷ (l ++ a ∷ k) = cc in absurd (no-cons z)
-each-word P (w-seq {u = u} {v = v} x y) h l a k e = go (λ l k d. each-word P x (h .0) l a k d) (λ l k d. each-word P y (h .1) l a k d) (stands a u v l k e)
-  where
-    go : ((l k : List ℕ) → u ≡ l ++ a ∷ k → P a) → ((l k : List ℕ) → v ≡ l ++ a ∷ k → P a) → Stands a u v l k → P a
-    go f g (left i p q) = f l i p
-    go f g (right i p q) = g i k q
-each-word P (w-left x) h l a k e = each-word P x (h .0) l a k e
-each-word P (w-right x) h l a k e = each-word P x (h .1) l a k e
-each-word P w-none h [] a k e = absurd (no-cons e)
-each-word P w-none h (x ∷ l) a k e = absurd (no-cons e)
-each-word P (w-more {u = u} {v = v} x y) h l a k e = go (λ l k d. each-word P x h l a k d) (λ l k d. each-word P y h l a k d) (stands a u v l k e)
-  where
-    go : ((l k : List ℕ) → u ≡ l ++ a ∷ k → P a) → ((l k : List ℕ) → v ≡ l ++ a ∷ k → P a) → Stands a u v l k → P a
-    go f g (left i p q) = f l i p
-    go f g (right i p q) = g i k q
+      suits-alike : (t : Tree) (z : Z .State) (x : X .State) → M z x → (a : ℕ) → X .has x a ≡ true → Suits Z t z a ↔ Suits X t x a
+      suits-alike (Tree.text w) z x m a h = let e = alike .head z x m a h in ((λ i. sym e ∙ i), (λ i. e ∙ i))
+      suits-alike (Tree.bool b) z x m a h = let e = alike .head z x m a h in ((λ i. sym e ∙ i), (λ i. e ∙ i))
+      suits-alike (Tree.node n f) z x m a h = let e = alike .head z x m a h in (
+        (λ i. let g = sym e ∙ i .0 in (g, admitted-alike f (Z .into z a) (X .into x a) (alike .into z x m a n h g) .0 (i .1))),
+        (λ i. (e ∙ i .0, admitted-alike f (Z .into z a) (X .into x a) (alike .into z x m a n h (i .0)) .1 (i .1))),
+      )
 
--- a stands in a word of m
-pub record On (m : Model) (a : ℕ) : Type 0 where
-  pub before : List ℕ
-  pub behind : List ℕ
-  pub word : Word m (before ++ a ∷ behind)
+      pub admitted-alike : (f : Forest) (z : Z .State) (x : X .State) → M z x → Admitted Z f z ↔ Admitted X f x
+      admitted-alike nil z x m = let e = alike .ends z x m in ((λ i. sym e ∙ i), (λ i. e ∙ i))
+      admitted-alike (cons t f) z x m = (
+        (λ i. let h = sym (alike .has z x m (i .0)) ∙ i .1 in
+            (i .0, h, suits-alike t z x m (i .0) h .0 (i .2), admitted-alike f (Z .after z (i .0)) (X .after x (i .0)) (alike .after z x m (i .0) h) .0 (i .3))),
+        (λ i. let h = i .1 in
+            (i .0, alike .has z x m (i .0) ∙ h, suits-alike t z x m (i .0) h .1 (i .2), admitted-alike f (Z .after z (i .0)) (X .after x (i .0)) (alike .after z x m (i .0) h) .1 (i .3))),
+      )
 
-pub each-on : (P : ℕ → Type 0) {m : Model} {a : ℕ} → Each P m → On m a → P a
-each-on P {a = a} h o = each-word P (o .word) h (o .before) a (o .behind) refl
+    pub lives-alike : (z : Z .State) (x : X .State) → M z x → (a : ℕ) → X .has x a ≡ true → Lives X x a → Lives Z z a
+    lives-alike z x m a h l = record {
+      tree = l .tree;
+      suits = suits-alike (l .tree) z x m a h .1 (l .suits);
+      behind = l .behind;
+      goes-on = admitted-alike (l .behind) (Z .after z a) (X .after x a) (alike .after z x m a h) .1 (l .goes-on);
+    }
 
-first-on : (m : Model) (a : ℕ) → first m a ≡ true → On m a
-first-on m a e = let x = first-word m a .0 e in record { before = []; behind = x .0; word = x .1 }
+    pub free-alike : (z : Z .State) (x : X .State) → M z x → Free X x → Free Z z
+    free-alike z x m free a b p q e =
+        let h = sym (alike .has z x m a) ∙ p in
+        let g = sym (alike .has z x m b) ∙ q in
+        free a b h g (sym (alike .head z x m a h) ∙ e ∙ alike .head z x m b g)
 
-follows-on : (m : Model) (c a : ℕ) → follows m c a ≡ true → On m a
-follows-on m c a e = let x = follows-word m c a .0 e in record { before = x .0 ++ c ∷ []; behind = x .1; word = rw (append-assoc (x .0) (c ∷ []) (a ∷ x .1)) (x .2) }
+    -- what is reached on the one side is reached on the other
+    pub found-alike : (W : Side) (y : W .State) (z : Z .State) (x : X .State) → M z x → {u : Z .State} {v : W .State} → Comes Z W z y u v → (w : X .State) × M u w × Comes X W x y w v
+    found-alike W y z x m here = (x, m, here)
+    found-alike W y z x m (behind {u = u} a b c p q e) =
+        let r = found-alike W y z x m c in
+        let h = sym (alike .has u (r .0) (r .1) a) ∙ p in
+        let g = alike .head u (r .0) (r .1) a h in
+        (X .after (r .0) a, alike .after u (r .0) (r .1) a h, behind a b (r .2) h q (sym g ∙ e))
+    found-alike W y z x m (inside {u = u} n a b c p q e l) =
+        let r = found-alike W y z x m c in
+        let h = sym (alike .has u (r .0) (r .1) a) ∙ p in
+        let g = alike .head u (r .0) (r .1) a h in
+        (X .into (r .0) a, alike .into u (r .0) (r .1) a n h (sym g ∙ l), inside n a b (r .2) h q (sym g ∙ e) (sym g ∙ l))
 
--- a place that may stand at the start is first; one that may stand behind another follows it
-pub has-first : (m : Model) (a : ℕ) → ltb 0 a && start m a ≡ true → first m a ≡ true
-has-first m a e = elim (or-cases (first m a) (nullable m && eqb 0 a) (and-right (ltb 0 a) (start m a) e)) [
-  | inl h ↦ h
-  | inr h ↦ absurd (omega (arith, eqb-true 0 a (and-right (nullable m) (eqb 0 a) h), ltb-true 0 a (and-left (ltb 0 a) (start m a) e)))
-]
-
-pub has-follows : (m : Model) (c a : ℕ) → ltb 0 a && next m c a ≡ true → follows m c a ≡ true
-has-follows m c a e = elim (or-cases (follows m c a) (last m c && eqb 0 a) (and-right (ltb 0 a) (next m c a) e)) [
-  | inl h ↦ h
-  | inr h ↦ absurd (omega (arith, eqb-true 0 a (and-right (last m c) (eqb 0 a) h), ltb-true 0 a (and-left (ltb 0 a) (next m c a) e)))
-]
-
--- ---- points of types, as a side
-
--- types, each known by a key: its model, the heads of its places, and the types inside them
-pub record Family : Type 1 where
-  pub Key : Type 0
-  pub model : Key → Model
-  pub head : Key → ℕ → Head
-  pub content : Key → ℕ → Key
-
--- a point of a type: the places that may stand there
-pub record Point (K : Type 0) : Type 0 where
-  pub key : K
-  pub set : Set
-
-module _ (T : Family) where
-  abbrev pub begin : T .Key → Point (T .Key)
-  begin k = record { key = k; set = start (T .model k) }
-
-  abbrev pub beyond : T .Key → ℕ → Point (T .Key)
-  beyond k a = record { key = k; set = next (T .model k) a }
-
-  abbrev pub pointSide : Side
-  pointSide = record {
-    State = Point (T .Key);
-    ends = λ x. x .set 0;
-    has = λ x a. ltb 0 a && x .set a;
-    head = λ x a. T .head (x .key) a;
-    into = λ x a. begin (T .content (x .key) a);
-    after = λ x a. beyond (x .key) a;
-  }
-
-  -- the points that are reached: `Asked` holds of the types that are asked about and of the contents of their places
-  module _ (Asked : T .Key → Type 0) where
-    -- what stands at a place
-    pub data Sort (k : T .Key) (a : ℕ) : Type 0 where
-      of-text : T .head k a ≡ Head.text → Sort k a
-      of-bool : T .head k a ≡ Head.bool → Sort k a
-      of-label : (n : ℕ) → T .head k a ≡ Head.label n → Asked (T .content k a) → Sort k a
-
-    pub record Place (k : T .Key) (a : ℕ) : Type 0 where
-      pub low : 1 ≤ a
-      pub sort : Sort k a
-
-    pub data Reached : Point (T .Key) → Type 0 where
-      at-start : (k : T .Key) → Asked k → Reached (begin k)
-      at-place : (k : T .Key) (c : ℕ) → Asked k → On (T .model k) c → Reached (beyond k c)
-
-    pub reached-asked : {x : Point (T .Key)} → Reached x → Asked (x .key)
-    reached-asked (at-start k h) = h
-    reached-asked (at-place k c h o) = h
-
-    pub reached-on : {x : Point (T .Key)} → Reached x → (a : ℕ) → ltb 0 a && x .set a ≡ true → On (T .model (x .key)) a
-    reached-on (at-start k h) a e = first-on (T .model k) a (has-first (T .model k) a e)
-    reached-on (at-place k c h o) a e = follows-on (T .model k) c a (has-follows (T .model k) c a e)
-
-    module _ (each : (k : T .Key) → Asked k → Each (Place k) (T .model k)) where
-      reached-place : {x : Point (T .Key)} → Reached x → (a : ℕ) → ltb 0 a && x .set a ≡ true → Place (x .key) a
-      reached-place {x} h a e = each-on (Place (x .key)) (each (x .key) (reached-asked h)) (reached-on h a e)
-
-      pub reached-after : (x : Point (T .Key)) (a : ℕ) → Reached x → ltb 0 a && x .set a ≡ true → Reached (beyond (x .key) a)
-      reached-after x a h e = at-place (x .key) a (reached-asked h) (reached-on h a e)
-
-      pub reached-into : (x : Point (T .Key)) (a n : ℕ) → Reached x → ltb 0 a && x .set a ≡ true → T .head (x .key) a ≡ Head.label n → Reached (begin (T .content (x .key) a))
-      reached-into x a n h e g = go (reached-place h a e .sort)
-        where
-          go : Sort (x .key) a → Reached (begin (T .content (x .key) a))
-          go (of-text i) = let z : Head.text ≡ Head.label n = sym i ∙ g in let y : _≡_ {A = ℕ} 0 1 = cc in absurd (omega arith)
-          go (of-bool i) = let z : Head.bool ≡ Head.label n = sym i ∙ g in let y : _≡_ {A = ℕ} 0 1 = cc in absurd (omega arith)
-          go (of-label m i c) = at-start (T .content (x .key) a) c
-
-      -- if every type asked about has a forest, then a forest can go through every place
-      module _ (filled : (k : T .Key) → Asked k → (f : Forest) × Admitted pointSide f (begin k)) where
-        place-tree : (x : Point (T .Key)) (a : ℕ) → Sort (x .key) a → (t : Tree) × Suits pointSide t x a
-        unfolding Suits
-        place-tree x a (of-text e) = (Tree.text (record { offset = 0; size = 0; bytes = [] }), e)
-        place-tree x a (of-bool e) = (Tree.bool true, e)
-        place-tree x a (of-label n e h) = let f = filled (T .content (x .key) a) h in (Tree.node n (f .0), (e, f .1))
-
-        -- trees for the rest of a word
-        word-behind : (k : T .Key) → Each (Place k) (T .model k) → (v l : List ℕ) (a : ℕ) → Word (T .model k) (l ++ a ∷ v) → (f : Forest) × Admitted pointSide f (beyond k a)
-        unfolding Admitted
-        word-behind k h [] l a w = (nil, or-right (follows (T .model k) a 0) (and-both (last (T .model k) a) (eqb 0 0) (last-word (T .model k) a .1 (l, w)) refl))
-        word-behind k h (b ∷ v) l a w =
-            let u : Word (T .model k) ((l ++ a ∷ []) ++ b ∷ v) = rw (append-assoc l (a ∷ []) (b ∷ v)) w in
-            let p : Place k b = each-on (Place k) h (record { before = l ++ a ∷ []; behind = v; word = u }) in
-            let t = place-tree (beyond k a) b (p .sort) in
-            let f = word-behind k h v (l ++ a ∷ []) b u in
-            (cons (t .0) (f .0), (b, and-both (ltb 0 b) (next (T .model k) a b) (lt-ltb 0 b (p .low)) (or-left (last (T .model k) a && eqb 0 b) (follows-word (T .model k) a b .1 (l, v, w))), t .1, f .1))
-
-        pub reached-lives : (x : Point (T .Key)) → Reached x → (a : ℕ) → ltb 0 a && x .set a ≡ true → Lives pointSide x a
-        reached-lives x h a e =
-            let o = reached-on h a e in
-            let t = place-tree x a (reached-place h a e .sort) in
-            let f = word-behind (x .key) (each (x .key) (reached-asked h)) (o .behind) (o .before) a (o .word) in
-            record { tree = t .0; suits = t .1; behind = f .0; goes-on = f .1 }
+    pub wanted-alike : (F : Side) (y : F .State) (z : Z .State) (x : X .State) → M z x → {u : F .State} {v : Z .State} → Comes F Z y z u v → (w : X .State) × M v w × Comes F X y x u w
+    wanted-alike F y z x m here = (x, m, here)
+    wanted-alike F y z x m (behind {v = v} a b c p q e) =
+        let r = wanted-alike F y z x m c in
+        let h = sym (alike .has v (r .0) (r .1) b) ∙ q in
+        let g = alike .head v (r .0) (r .1) b h in
+        (X .after (r .0) b, alike .after v (r .0) (r .1) b h, behind a b (r .2) p h (e ∙ g))
+    wanted-alike F y z x m (inside {v = v} n a b c p q e l) =
+        let r = wanted-alike F y z x m c in
+        let h = sym (alike .has v (r .0) (r .1) b) ∙ q in
+        let g = alike .head v (r .0) (r .1) b h in
+        (X .into (r .0) b, alike .into v (r .0) (r .1) b n h (sym g ∙ sym e ∙ l), inside n a b (r .2) p h (e ∙ g) l)

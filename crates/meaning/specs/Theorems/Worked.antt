@@ -1,34 +1,36 @@
 -- Document 01, "Worked on paper": P1 to P12, the recursion and the listing, gathered under a single statement, `Worked`, about the replies, walks and types that the promises cite.
 -- By computation, but for what speaks of all forests, of all rows, or of all that may be lent.
-use Prim.Native.Nat.{ℕ, zero, suc, _+_, _*_, _≤_, _<_}
+use Prim.Native.Nat.{ℕ, _+_, _≤_}
 use mathlib.Core.Path.{_≡_, refl}
-use mathlib.Core.Bool.{Bool, true, false}
+use mathlib.Core.Bool.{true}
 use mathlib.Core.List.{List, [], _∷_, _++_}
 use native.Mathlib.Omega.{arith}
 use borrow.Author.Tests.{leb-true}
-use lib.ListN.{length, drop, replicate}
+use lib.ListN.{drop, replicate}
 use Rattle.meaning.specs.Limits.{most-depth, most-width, most-lent}
 use Rattle.meaning.specs.Words.{bytesOf, rowsLent}
 use Rattle.meaning.specs.Sheet.{sheetOf, scriptOf, groveOf}
-use Rattle.meaning.specs.Forest.{Tree, Forest, nil, cons, only, _⊕_, forestOf}
+use Rattle.meaning.specs.Forest.{Tree, Forest, nil, only, _⊕_, forestOf}
 use Rattle.meaning.specs.Types.{Ty, Named, Of, of-empty, of-label, of-seq, of-left, of-right, of-none, of-more, of-name, Within, Barren, Fertile, namesIn, declared}
-use Rattle.meaning.specs.Walk.{gives, settle, passed, of-statement, of-output}
+use Rattle.meaning.specs.Walk.{gives, settle, paid, of-statement, of-output}
 use Rattle.meaning.specs.Walk as walk
 use Rattle.meaning.specs.Run.{query}
-use Rattle.meaning.specs.Check.{holds, fails}
+use Rattle.meaning.specs.Check.{holds, fails, check-walk}
 use Rattle.meaning.specs.Places.{Tie, Untied, LowestBarren}
 use Rattle.meaning.specs.Bundle.{bundleOf, framed, sheetIn}
-use Rattle.meaning.specs.Reply.{fuel, depth, stuck, barren, tie, outside, done, refused, Loads, is-barren, is-tied, sound, Checked, Fitted, fits, Ran, Applied, applied}
-use Rattle.meaning.specs.Listing.{codes, digits, fields, Told, all-done, row-lines, listing, lent-work, lent-result, Tells, told}
-use Rattle.meaning.specs.Laws.Tests.{table-low, table-high}
-use Rattle.meaning.specs.Laws.Walk.{pay-paid, pay-short}
+use Rattle.meaning.specs.Reply.{fuel, depth, stuck, barren, tie, outside, done, refused, Loads, is-barren, is-tied, sound, Checked, Fitted, fits, Applied, applied}
+use Rattle.meaning.specs.Listing.{codes, digits, fields, all-done, row-lines, listing, lent-work, lent-result, Tells, told}
+use Rattle.meaning.specs.Laws.Tests.{table-low}
+use Rattle.meaning.specs.Theorems.Sound.{OfB, apply-sound}
 pub mod Sheets
 pub mod Ties
 pub mod Stated
+pub mod Slips
+pub mod Trials
 use Sheets.{Row, row, joined, s1, s5, s6, s6-star, s7, s8, s8-star, s9, s10, s11, s12, loop}
 use Ties.{untied}
 use Ties.{tie as tie-of}
-use Stated.{tables, shape, ties, runs, checks, frames, a, b, c, d, leaf, tip, trees, Does, Refuses, Checks, Walks, no-names, loads, does, refuses, answers, in-itself, lent}
+use Stated.{tables, shape, ties, runs, checks, frames, a, b, c, d, leaf, tip, trees, Does, Refuses, Checks, Walks, no-names, one-name, loads, does, refuses, Passing, settles, answers-by, answers, in-itself, lent}
 
 -- ---- the statements
 
@@ -115,7 +117,7 @@ whole = s1 4096 4096
 abbrev pub Printed : Type 0
 Printed = Tells (bundleOf whole) (all-done 38 33 7 (bytesOf (joined seven) ++ drop 56 lent-result))
     × ((rest : List ℕ) → listing (all-done 38 33 7 (bytesOf (joined seven) ++ rest))
-    ≡ codes "check 0 38\nfit 0\nrun 0 33 7\n1 4 4 0 0\n2 4 3 0 0\n3 4 2 0 2\n4 4 3 0 3\n5 4 3 0 4\n6 4 2 0 5\n7 4 1 6 1\n")
+        ≡ codes "check 0 38\nfit 0\nrun 0 33 7\n1 4 4 0 0\n2 4 3 0 0\n3 4 2 0 2\n4 4 3 0 3\n5 4 3 0 4\n6 4 2 0 5\n7 4 1 6 1\n")
 
 -- what the theorems assume, met together by one sheet: it passes 2 to 4, check passes it, its forest is of A
 pub record Met (s work : List ℕ) : Type 0 where
@@ -142,6 +144,8 @@ pub record Worked : Type 0 where
   pub met : Met whole lent-work
   -- and apply's reply on it, the eighth row lent untouched
   pub applies : Applied whole lent-work (replicate 64 9) done 38 33 7 (bytesOf (joined seven) ++ replicate 8 9)
+  -- so soundness speaks of it: the rows given, read back, are a forest of B
+  pub of-B : OfB whole (bytesOf (joined seven) ++ replicate 8 9) 7
 
 -- ---- P1 to P4
 
@@ -169,16 +173,18 @@ p2 : P2
 unfolding s1 runs
 p2 = refuses ok2 0 refl refl refl
 
--- to the first insert, to the second, to the end
+-- two inserts and the output ask
+asked : (checkFuel runFuel : ℕ) → Passing (namesIn (scriptOf (s1 checkFuel runFuel))) (check-walk (scriptOf (s1 checkFuel runFuel)))
+unfolding s1 checks
+asked checkFuel runFuel = (in-itself refl refl, (in-itself refl refl, (in-itself refl refl, tt)))
+
 p3 : P3
 unfolding s1 checks
-p3 =
-    let w : Walks (s1 38 4096) 38 (gives yielded) 0 = pay-paid _ 12 (passed (in-itself refl refl) (pay-paid _ 14 (passed (in-itself refl refl) (pay-paid _ 12 (passed (in-itself refl refl) walk.done))))) in
-    (w, answers ok3 38 refl w refl)
+p3 = (settles (check-walk (scriptOf (s1 38 4096))) 38 (asked 38 4096), answers ok3 0 (asked 38 4096) refl refl refl)
 
 p4 : P4
 unfolding s1 checks
-p4 = answers ok4 37 refl (pay-paid _ 12 (passed (in-itself refl refl) (pay-paid _ 14 (passed (in-itself refl refl) (pay-short _ 12 11 _ (leb-true 12 12 refl)))))) refl
+p4 = answers ok4 0 (asked 37 4096) refl refl refl
 
 -- ---- P5, P6
 
@@ -229,12 +235,11 @@ ok7-back = loads (s7 9 3) refl refl refl
 p7 : P7
 unfolding s7 checks
 p7 = (
-  (λ names f o. star-left names o),
-  (λ names. (b-is names, λ o. b-is-not names o refl)),
-  not-back,
-  answers ok7 1 {left = 4095} refl (pay-paid _ 1 (passed (holds (leb-true 3 most-width refl) (λ f o. star-left _ o)) walk.done)) refl,
-  answers ok7-back 1 {left = 4095} refl (pay-paid _ 1 (walk.refused (fails (leb-true 6 most-width refl) (not-back _)))) refl,
-)
+    (λ names f o. star-left names o),
+    (λ names. (b-is names, λ o. b-is-not names o refl)),
+    not-back,
+    answers ok7 4095 (holds (leb-true 3 most-width refl) (λ f o. star-left _ o), tt) refl refl refl,
+    answers-by ok7-back 4095 (paid (walk.refused (fails (leb-true 6 most-width refl) (not-back _)))) refl refl)
 
 -- ---- P8
 
@@ -254,11 +259,10 @@ some-of-X = (only (leaf a), of-name (of-label of-none))
 p8 : P8
 unfolding s8 s8-star shape ties
 p8 = (
-  none-of-X,
-  is-barren refl lowest-X,
-  some-of-X,
-  sound refl (λ x t. let l = table-low 1 x t in let h = table-high 1 x t in let e : x ≡ 1 = omega arith in rw e some-of-X) (untied (scriptOf s8-star) refl),
-)
+    none-of-X,
+    is-barren refl lowest-X,
+    some-of-X,
+    sound refl (one-name s8-star refl some-of-X) (untied (scriptOf s8-star) refl))
 
 -- ---- P9 to P12
 
@@ -316,14 +320,14 @@ ok-whole = loads whole refl refl refl
 
 check-whole : Checks whole done 38
 unfolding whole s1 checks
-check-whole = answers ok-whole 38 {left = 4058} refl (pay-paid _ 12 (passed (in-itself refl refl) (pay-paid _ 14 (passed (in-itself refl refl) (pay-paid _ 12 (passed (in-itself refl refl) walk.done)))))) refl
+check-whole = answers ok-whole 4058 (asked 4096 4096) refl refl refl
 
 of-A-whole : Of (namesIn (scriptOf whole)) (declared (scriptOf whole) (scriptOf whole .a)) (forestOf (groveOf whole))
 unfolding whole s1 checks runs
 of-A-whole = of-seq {f = only (Tree.node a (trees (leaf b ∷ leaf c ∷ leaf b ∷ [])))} {g = only (leaf d)}
     (of-label (of-seq {f = only (leaf b)} {g = trees (leaf c ∷ leaf b ∷ [])}
-    (of-more {f = only (leaf b)} {g = nil} (of-label of-empty) of-none)
-    (of-seq {f = only (leaf c)} {g = only (leaf b)} (of-label of-empty) (of-more {f = only (leaf b)} {g = nil} (of-label of-empty) of-none))))
+        (of-more {f = only (leaf b)} {g = nil} (of-label of-empty) of-none)
+        (of-seq {f = only (leaf c)} {g = only (leaf b)} (of-label of-empty) (of-more {f = only (leaf b)} {g = nil} (of-label of-empty) of-none))))
     (of-label of-empty)
 
 fit-whole : Fitted whole (scriptOf whole .a) done
@@ -356,10 +360,9 @@ read-whole = refl
 printed : Printed
 unfolding tables listing codes digits fields row-lines
 printed = (
-  told {u = 38} {v = 33} {root = 7} {after = bytesOf (joined seven) ++ drop 56 lent-result} framed-whole (rw read-whole (check-whole lent-work check-room))
-      (rw read-whole fit-whole) (rw read-whole (run-whole .reply lent-work lent-result run-room result-room)),
-  λ rest. refl,
-)
+    told {u = 38} {v = 33} {root = 7} {after = bytesOf (joined seven) ++ drop 56 lent-result} framed-whole (rw read-whole (check-whole lent-work check-room))
+        (rw read-whole fit-whole) (rw read-whole (run-whole .reply lent-work lent-result run-room result-room)),
+    λ rest. refl)
 
 applies : Applied whole lent-work (replicate 64 9) done 38 33 7 (bytesOf (joined seven) ++ replicate 8 9)
 applies = applied (check-whole lent-work check-room) fit-whole (run-whole .reply lent-work (replicate 64 9) run-room (leb-true 7 8 refl))
@@ -368,20 +371,10 @@ applies = applied (check-whole lent-work check-room) fit-whole (run-whole .reply
 
 pub worked : Worked
 worked = record {
-  p1 = p1;
-  p2 = p2;
-  p3 = p3;
-  p4 = p4;
-  p5 = p5;
-  p6 = p6;
-  p7 = p7;
-  p8 = p8;
-  p9 = p9;
-  p10 = p10;
-  p11 = p11;
-  p12 = p12;
+  p1 = p1; p2 = p2; p3 = p3; p4 = p4; p5 = p5; p6 = p6; p7 = p7; p8 = p8; p9 = p9; p10 = p10; p11 = p11; p12 = p12;
   recursion = recursion;
   printed = printed;
   met = record { loaded = ok-whole; checked = check-whole lent-work check-room; fitted = fit-whole; of-A = of-A-whole };
   applies = applies;
+  of-B = apply-sound applies;
 }

@@ -1,7 +1,7 @@
 -- How the worked examples are stated (replies, for whatever is lent if it is enough) and shown: a lemma for each form, and a name for each group of definitions that is opened to compute with.
 use Prim.Native.Nat.{ℕ, zero, suc, _+_, _*_, _≤_}
-use mathlib.Core.Path.{_≡_, refl, sym, ap}
-use mathlib.Core.Bool.{Bool, true, false}
+use mathlib.Core.Path.{_≡_, sym, ap, subst}
+use mathlib.Core.Bool.{true}
 use mathlib.Core.List.{List, [], _∷_, _++_}
 use native.Mathlib.Omega.{arith}
 use borrow.Author.Tests.{leb-true}
@@ -12,10 +12,11 @@ use Rattle.meaning.specs.Tests.{every, some, total}
 use Rattle.meaning.specs.Words.{bytesOf, rowsLent}
 use Rattle.meaning.specs.Sheet.{sheetOf, scriptOf, groveOf}
 use Rattle.meaning.specs.Forest.{Tree, Forest, nil, cons, _⊕_, count, bytesFrom, sameBytes, forest, forestAt, forestSize, treeSize, forestRows, treeRows, resultRows, rowBytes, rootAfter}
-use Rattle.meaning.specs.Types.{Ty, Named, namesIn, tyAt, ty, tyForm, size, atomOf}
-use Rattle.meaning.specs.Walk.{_>>=_, pay, pass, Verdict, gives, Settled, settle, Settles}
+use Rattle.meaning.specs.Types.{Ty, Named, Fertile, namesIn, tyAt, ty, tyForm, size, atomOf}
+use Rattle.meaning.specs.Walk.{ret, halt, tick, ask, _>>=_, pay, pass, Quiet, Verdict, gives, Settled, settle, Settles, halted, short, paid, passed}
+use Rattle.meaning.specs.Walk as walk
 use Rattle.meaning.specs.Run.{seen, tested, inside, kept, each, branch, same-texts, query-of, insert-of, rename-of, test-of, children-of, arguments, statement-of, query, statement, run-walk}
-use Rattle.meaning.specs.Check.{Question, Judged, holds, parts, tests, picked, test-type, rename-type, children-type, inside-type, ask-all, query-type, statement-type, typesAt, infer, typing, body, bodies, check-walk}
+use Rattle.meaning.specs.Check.{Question, Asking, Judged, holds, parts, tests, picked, test-type, rename-type, children-type, inside-type, ask-all, query-type, statement-type, typesAt, infer, typing, body, bodies, check-walk}
 use Rattle.meaning.specs.Shape.{wordOk, types-ok, queries-ok, statements-ok, rows-ok, names-ok, procedures-ok, roots-ok, limits-ok, own, asking, type-users, query-users, statement-users, row-users, users-ok, holds-tree, query-scope, arguments-scope, statement-scope, parameters-scope, query-scoped, statement-scoped, scope-ok, shapely}
 use Rattle.meaning.specs.Places.{model, modelAt, modelForm, nullable, first, last, follows, same-head, tied, NoneBarren}
 use Rattle.meaning.specs.Bundle.{blocks, filled, wordSum, payload, all-zero}
@@ -23,6 +24,21 @@ use Rattle.meaning.specs.Reply.{Refusal, Answer, done, refused, Loads, s
 use Rattle.meaning.specs.Laws.Tests.{table-low, table-high}
 use Rattle.meaning.specs.Theorems.Worked.Sheets.{Row, joined, sheet}
 use Rattle.meaning.specs.Theorems.Worked.Ties.{all-places, none-tied, untied}
+
+-- ---- a check's walk, where its questions pass
+
+-- a check's walk without its questions, which all pass
+unfoldable pub unasked : {A : Type 0} → Asking A → Quiet A
+unasked (ret x) = ret x
+unasked (halt h) = halt h
+unasked (tick w) = tick (unasked w)
+unasked (ask q w) = unasked w
+
+unfoldable pub Passing : {A : Type 0} → (ℕ → Named) → Asking A → Type 0
+Passing names (ret x) = Unit {0}
+Passing names (halt h) = Unit {0}
+Passing names (tick w) = Passing names w
+Passing names (ask q w) = Judged names q pass × Passing names w
 
 -- ---- what computes
 
@@ -48,7 +64,7 @@ runs = tt
 
 -- a check
 unfoldable pub checks : Unit {0}
-unfolding tables namesIn tyAt ty tyForm atomOf size parts tests picked test-type rename-type children-type inside-type ask-all query-type statement-type typesAt arguments infer typing body bodies check-walk _>>=_ pay
+unfolding tables unasked Passing settle namesIn tyAt ty tyForm atomOf size parts tests picked test-type rename-type children-type inside-type ask-all query-type statement-type typesAt arguments infer typing body bodies check-walk _>>=_ pay
 checks = tt
 
 -- a bundle
@@ -106,6 +122,9 @@ Walks s n v m = Settles (Judged (namesIn (scriptOf s))) (check-walk (scriptOf s)
 pub no-names : (s : List ℕ) → scriptOf s .names ≡ 0 → NoneBarren (scriptOf s)
 no-names s e x t = let l = table-low (scriptOf s .names) x t in let h = table-high (scriptOf s .names) x t in absurd (omega arith)
 
+pub one-name : (s : List ℕ) → scriptOf s .names ≡ 1 → Fertile (namesIn (scriptOf s)) 1 → NoneBarren (scriptOf s)
+one-name s e f x t = let l = table-low (scriptOf s .names) x t in let h = table-high (scriptOf s .names) x t in let z : x ≡ 1 = omega arith in rw z f
+
 -- a sheet without names loads
 pub loads : (s : List ℕ) → shapely s ≡ true → scriptOf s .names ≡ 0 → none-tied (scriptOf s) (λ x y. true) ≡ true → Loads s done
 loads s e n h = sound e (no-names s n) (untied (scriptOf s) h)
@@ -122,9 +141,26 @@ module _ {s : List ℕ} (ok : Loads s done) {units : ℕ} (left : ℕ) where
   pub refuses : {v : Verdict Forest} {r : Refusal} → run-settled s ≡ record { verdict = v; left = left } → verdict-answer v ≡ refused r → units + left ≡ sheetOf s .runFuel → Refuses s r units
   refuses {r = r} e q p work result enough = ended {r = r} {units = units} ok enough (rw e q) (rw e p)
 
--- a walk's end is the check's answer
-pub answers : {s : List ℕ} → Loads s done → {n : ℕ} {v : Verdict Ty} (units : ℕ) {left : ℕ} → sheetOf s .checkFuel ≡ n → Walks s n v left → units + left ≡ n → Checks s (verdict-answer v) units
-answers ok {v = v} units {left = left} e w p work enough = walked {units = units} {left = left} {v = v} ok enough (rw e w) refl (rw e p)
+pub settles : {A : Type 0} {names : ℕ → Named} (w : Asking A) (n : ℕ) → Passing names w → Settles (Judged names) w n (settle (unasked w) n .verdict) (settle (unasked w) n .left)
+unfolding unasked Passing settle
+settles (ret x) n h = walk.done
+settles (halt s) n h = halted
+settles (tick w) zero h = short
+settles (tick w) (suc n) h = paid (settles w n h)
+settles (ask q w) n h = passed (h .0) (settles w n (h .1))
+
+abbrev pub check-settled : List ℕ → Settled Ty
+check-settled s = settle (unasked (check-walk (scriptOf s))) (sheetOf s .checkFuel)
+
+module _ {s : List ℕ} (ok : Loads s done) {answer : Answer} {units : ℕ} (left : ℕ) {v : Verdict Ty} where
+  -- a walk's end is the check's answer
+  pub answers-by : Walks s (sheetOf s .checkFuel) v left → verdict-answer v ≡ answer → units + left ≡ sheetOf s .checkFuel → Checks s answer units
+  answers-by w e p work enough = walked {units = units} {left = left} {v = v} ok enough w e p
+
+  -- where every question passes, the end is computed
+  pub answers : Passing (namesIn (scriptOf s)) (check-walk (scriptOf s)) → check-settled s ≡ record { verdict = v; left = left }
+      → verdict-answer v ≡ answer → units + left ≡ sheetOf s .checkFuel → Checks s answer units
+  answers h e = answers-by (subst (λ (x : Settled Ty). Walks s (sheetOf s .checkFuel) (x .verdict) (x .left)) e (settles (check-walk (scriptOf s)) (sheetOf s .checkFuel) h))
 
 -- a type asked about lies in itself
 pub in-itself : {names : ℕ → Named} {q : Question} → leb (size (q .found)) most-width ≡ true → q .found ≡ q .wanted → Judged names q pass

@@ -1,8 +1,8 @@
 -- Ties by computation: a rival is a place of the model, so a finite test over the places of every declared type and content says of all pairs of rows that they are not tied.
-use Prim.Native.Nat.{ℕ, zero, suc, _≤_, _<_}
+use Prim.Native.Nat.{ℕ, _≤_}
 use mathlib.Core.Path.{_≡_, refl}
 use mathlib.Core.Bool.{Bool, true, false, _&&_, _||_, not}
-use mathlib.Core.Logic.{_⊎_, inl, inr}
+use mathlib.Core.Logic.{inl, inr}
 use borrow.Author.Tests.{eqb-true, eq-eqb, lt-ltb, not-true}
 use lib.Dec.{eqb, ltb}
 use Rattle.meaning.specs.Tests.{every, some}

@@ -1,0 +1,137 @@
+// Barren names: a name is marked once its row is known to have a forest. A round marks what the last one allows; after as many rounds as there are names, what is not marked is barren.
+use sheet::Layout;
+ghost use mathlib.Core.Path.{_≡_};
+ghost use mathlib.Core.Bool.{true, cond};
+ghost use Prim.Native.Nat.{ℕ, _+_, _<_, _≤_};
+ghost use lib.ListN.{set, length};
+ghost use lib.Dec.{eqb};
+ghost use Rattle.meaning.specs.Sheet.{scriptOf};
+ghost use Rattle.meaning.specs.Types.{declared};
+ghost use Rattle.meaning.specs.Shape.{shapely};
+ghost use Rattle.meaning.specs.Laws.Barren.{fills as filling};
+ghost use Rattle.sheet.specs.Laid.{Laid};
+ghost use Rattle.barren.specs.Flags.{flag};
+ghost use Rattle.barren.specs.Marks.{Filled, Rounding, LowestUnmarked, SaysBarren};
+
+// Whether row `i` has a forest, from the flags of the rows below it and the marks of the names.
+fn fills(s: &[u8], l: Layout, i: usize, marked: &[u8; 33], full: &[u8; 513]) -> bool
+    requires { ⌜ shapely (now s) ≡ true ⌝ }
+    requires { ⌜ Laid (now s) l ⌝ }
+    requires { ⌜ (1 ≤ i) × (i ≤ l .types) ⌝ }
+    requires { ⌜ Filled (now s) (flag (now marked)) (now full) i ⌝ }
+    ensures { λ r. ⌜ r ≡ filling (flag (now (marked .entry))) (declared (scriptOf (now (s .entry))) i) ⌝ }
+{
+    let c = sheet::type_row(s, l, i);
+    let kind = c.kind;
+    let p = c.p;
+    let q = c.q;
+    match kind {
+        4 => full[q] == 1,
+        5 => {
+            if full[p] == 1 {
+                return full[q] == 1;
+            }
+            false
+        }
+        6 => {
+            if full[p] == 1 {
+                return true;
+            }
+            full[q] == 1
+        }
+        8 => marked[p] == 1,
+        0..=3 | 7 | 9..=65535 => true,
+    }
+}
+
+fn digit(b: bool) -> u8
+    ensures { λ r. ⌜ eqb r 1 ≡ b ⌝ }
+{
+    if b {
+        return 1;
+    }
+    0
+}
+
+// The rows that have a forest, by the marks of the names.
+fn fill(s: &[u8], l: Layout, marked: &[u8; 33], full: &mut [u8; 513])
+    requires { ⌜ shapely (now s) ≡ true ⌝ }
+    requires { ⌜ Laid (now s) l ⌝ }
+    requires { ⌜ length (now full) ≡ 513 ⌝ }
+    ensures { λ _. ⌜ Filled (now (s .entry)) (flag (now (marked .entry))) (now (full .exit)) (scriptOf (now (s .entry)) .types + 1) ⌝ }
+{
+    let mut i = 1;
+    while i <= l.types {
+        full[i] = digit(fills(s, l, i, marked, full));
+        i += 1;
+    }
+}
+
+// Marks the name `x` if its row has a forest.
+fn mark(s: &[u8], l: Layout, x: usize, full: &[u8; 513], marked: &mut [u8; 33])
+    requires { ⌜ shapely (now s) ≡ true ⌝ }
+    requires { ⌜ Laid (now s) l ⌝ }
+    requires { ⌜ (1 ≤ x) × (x ≤ l .names) ⌝ }
+    ensures { λ _. ⌜ now (marked .exit) ≡ cond (flag (now (full .entry)) (scriptOf (now (s .entry)) .nameRow x)) (set (now (marked .entry)) x 1) (now (marked .entry)) ⌝ }
+{
+    if full[sheet::name_row(s, l, x)] == 1 {
+        marked[x] = 1;
+    }
+}
+
+// Marks each name whose row has a forest.
+fn mark_all(s: &[u8], l: Layout, full: &[u8; 513], marked: &mut [u8; 33])
+    requires { ⌜ shapely (now s) ≡ true ⌝ }
+    requires { ⌜ Laid (now s) l ⌝ }
+    requires { ⌜ Filled (now s) (flag (now marked)) (now full) (scriptOf (now s) .types + 1) ⌝ }
+    requires { ⌜ length (now marked) ≡ 33 ⌝ }
+    ensures { λ _. ⌜ Rounding (now (s .entry)) (now (marked .entry)) (now (marked .exit)) (scriptOf (now (s .entry)) .names + 1) ⌝ }
+{
+    let mut x = 1;
+    while x <= l.names {
+        mark(s, l, x, full, marked);
+        x += 1;
+    }
+}
+
+fn round(s: &[u8], l: Layout, full: &mut [u8; 513], marked: &mut [u8; 33])
+    requires { ⌜ shapely (now s) ≡ true ⌝ }
+    requires { ⌜ Laid (now s) l ⌝ }
+    requires { ⌜ (length (now full) ≡ 513) × (length (now marked) ≡ 33) ⌝ }
+    ensures { λ _. ⌜ length (now (full .exit)) ≡ 513 ⌝ }
+    ensures { λ _. ⌜ Rounding (now (s .entry)) (now (marked .entry)) (now (marked .exit)) (scriptOf (now (s .entry)) .names + 1) ⌝ }
+{
+    fill(s, l, marked, full);
+    mark_all(s, l, full, marked);
+}
+
+// The lowest name that is not marked, 0 where there is none.
+fn lowest_unmarked(names: usize, marked: &[u8; 33]) -> usize
+    requires { ⌜ names ≤ 32 ⌝ }
+    ensures { λ r. ⌜ LowestUnmarked names (now (marked .entry)) r ⌝ }
+{
+    let mut x = 1;
+    while x <= names {
+        if marked[x] != 1 {
+            return x;
+        }
+        x += 1;
+    }
+    0
+}
+
+// The lowest barren name, or 0.
+pub fn barren(s: &[u8], l: Layout) -> usize
+    requires { ⌜ shapely (now s) ≡ true ⌝ }
+    requires { ⌜ Laid (now s) l ⌝ }
+    ensures { λ r. ⌜ SaysBarren (now (s .entry)) r ⌝ }
+{
+    let mut full = [0u8; 513];
+    let mut marked = [0u8; 33];
+    let mut turn = 0;
+    while turn < l.names {
+        round(s, l, &mut full, &mut marked);
+        turn += 1;
+    }
+    lowest_unmarked(l.names, &marked)
+}

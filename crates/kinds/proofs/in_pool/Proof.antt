@@ -1,0 +1,21 @@
+-- `kinds::in_pool` meets its contract: the sum is not made, so it does not wrap.
+use mathlib.Core.Path.{sym}
+use native.Mathlib.Omega.{arith}
+use Prim.Native.Nat.{_+_}
+use borrow.Author.Tests.{lt-leb}
+use Rattle.kinds.proofs.Words.{pooled}
+use Rattle.kinds.proofs.in_pool.Statement.{statement}
+use Rattle.kinds.proofs.in_pool.Tie as tie
+use Rattle.kinds.proofs.in_pool.Reads as reads
+use Rattle.kinds.proofs.in_pool.Lts as lts
+
+-- src/lib.rt:152:9
+returns : tie.Need-returns
+returns c = sym (lt-leb (c .before .args .offset + c .before .args .w) (c .before .args .pool) (omega arith))
+
+-- src/lib.rt:148:1
+returns-2 : tie.Need-returns-2
+returns-2 c = pooled (c .before .args .pool) (c .before .args .offset) (c .before .args .w) (omega arith)
+
+pub in-pool-spec : {M : Type 1} → statement M
+in-pool-spec = tie.close (tie.spec returns returns-2)

@@ -1,0 +1,55 @@
+-- `users::types_once` meets its contract: what is counted from nothing is the number of users.
+use Rattle.meaning.specs.Shape.{type-users}
+use Rattle.meaning.specs.Sheet.{sheetOf}
+use Rattle.users.proofs.Counts.{then}
+use Rattle.users.proofs.Users.{fresh, counted, type-users-are}
+use borrow.Author.Needs.{needs}
+use Rattle.users.proofs.types_once.Statement.{statement}
+use Rattle.users.proofs.types_once.Tie as tie
+use Rattle.users.proofs.types_once.Reads as reads
+use Rattle.users.proofs.types_once.Lts as lts
+use Rattle.users.proofs.all_one.Reads as all-one-reads
+use Rattle.users.proofs.by_names.Reads as by-names-reads
+use Rattle.users.proofs.by_procedures.Reads as by-procedures-reads
+use Rattle.users.proofs.by_types.Reads as by-types-reads
+use Rattle.users.proofs.refer.Reads as refer-reads
+
+-- src/lib.rt:243:5
+by-types-requires : tie.Need-by-types-requires
+by-types-requires c κs = (c .before .before .pre .0, fresh)
+
+-- src/lib.rt:244:5
+by-names-requires : tie.Need-by-names-requires
+by-names-requires c κs = search needs
+
+-- src/lib.rt:245:5
+by-procedures-requires : tie.Need-by-procedures-requires
+by-procedures-requires c κs = search needs
+
+-- src/lib.rt:246:5
+refer-requires : tie.Need-refer-requires
+refer-requires c κs = search needs
+
+-- src/lib.rt:247:5
+refer-requires-2 : tie.Need-refer-requires-2
+refer-requires-2 c κs = search needs
+
+-- src/lib.rt:248:5
+all-one-requires : tie.Need-all-one-requires
+all-one-requires c κs = search needs
+
+-- src/lib.rt:237:1
+returns : tie.Need-returns
+returns c = counted (type-users (sheetOf (c .before .before .before .before .before .before .before .before .before .before .before .before .before .args .s .now))) (c .before .before .before .before .before .before .before .before .before .before .before .before .before .args .l .types) (c .before .before .before .before .before .before .before .before .before .before .before .before .before .pre .1) (then (then (then (then (c .before .before .before .before .before .before .before .before .before .before .by-types .ensures) (c .before .before .before .before .before .before .before .before .by-names .ensures)) (c .before .before .before .before .before .before .by-procedures .ensures)) (c .before .before .before .before .refer .ensures)) (c .before .before .refer2 .ensures)) (type-users-are (c .before .before .before .before .before .before .before .before .before .before .before .before .before .pre .0)) (c .all-one .ensures)
+
+pub types-once-spec : {M : Type 1} → statement M
+types-once-spec =
+    tie.close
+    (tie.spec
+    by-types-requires
+    by-names-requires
+    by-procedures-requires
+    refer-requires
+    refer-requires-2
+    all-one-requires
+    returns)
