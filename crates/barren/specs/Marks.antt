@@ -1,29 +1,28 @@
 -- The marking of names, round by round: which rows fill by the marks, kind by kind, what one round does, and what the marks say after as many rounds as there are names.
 use Prim.Native.Nat.{ℕ, zero, suc, _+_, _≤_, _<_}
 use mathlib.Core.Path.{_≡_, refl, sym, _∙_, ap}
-use mathlib.Core.Bool.{Bool, true, false, _&&_, _||_, cond, false≢true}
+use mathlib.Core.Bool.{Bool, true, false, _&&_, _||_, cond}
 use mathlib.Core.List.{List}
 use mathlib.Core.Logic.{_⊎_, inl, inr}
 use native.Mathlib.Decide.{decLt, ℕ-discrete}
 use native.Mathlib.Numerals.{add-one}
 use native.Mathlib.Omega.{arith}
 use lib.Dec.{eqb}
-use lib.ListN.{getD, length, set, replicate, length-set, length-replicate}
-use borrow.Author.Tests.{eqb-true, eq-eqb, ne-eqb}
+use lib.ListN.{length, set, replicate, length-set, length-replicate}
 use Rattle.meaning.specs.Tests.{inTable}
-use Rattle.meaning.specs.Sheet.{Cells, Script, scriptOf}
+use Rattle.meaning.specs.Sheet.{Cells, scriptOf}
 use Rattle.meaning.specs.Kinds.{TypeRow, typeForm, typeAt}
-use Rattle.meaning.specs.Types.{Ty, tyForm, ty, tyAt, declared, namesIn, Fertile}
+use Rattle.meaning.specs.Types.{tyForm, ty, tyAt, declared, namesIn}
 use Rattle.meaning.specs.Shape.{shapely}
 use Rattle.meaning.specs.Places.{LowestBarren, NoneBarren}
-use Rattle.meaning.specs.Laws.Bools.{and-left, and-right, either, not-both}
-use Rattle.meaning.specs.Laws.Tests.{in-table, table-low, table-high}
+use Rattle.meaning.specs.Laws.Bools.{not-both}
+use Rattle.meaning.specs.Laws.Tests.{table-low, table-high}
 use Rattle.meaning.specs.Laws.Apart.{View, v-none, v-empty, v-text, v-bool, v-label, v-seq, v-choice, v-star, v-name, view, tyAt-row, shaped-lower}
-use Rattle.meaning.specs.Laws.Barren.{fills, Over, Name, Earned, none-earned, content-fertile, Closed, Round, Far, far-none, far-round, far-closed, unmarked-barren}
+use Rattle.meaning.specs.Laws.Barren.{fills, Over, Name, Earned, content-fertile, Far, far-none, far-round, far-closed, unmarked-barren}
 use Rattle.sheet.specs.declared.Layout.{Layout}
 use Rattle.sheet.specs.Laid.{Laid}
 use Rattle.barren.specs.Flags.{flag, flag-set, flag-kept, unset}
-use Rattle.barren.specs.Rows.{Part, label-row, seq-row, choice-row, star-row, name-row, named, kind-in}
+use Rattle.barren.specs.Rows.{label-row, seq-row, choice-row, name-row, named, kind-in}
 
 -- the flags of the rows below i say which of them have a forest, by the marks of the names
 pub record Filled (s : List ℕ) (live : ℕ → Bool) (full : List ℕ) (i : ℕ) : Type 0 where

@@ -1,15 +1,13 @@
 -- What a shaped sheet's type rows are, kind by kind: read off Shape's tests. And what the type of a row is made of, by its kind.
-use Prim.Native.Nat.{ℕ, zero, suc, _-_, _≤_, _<_}
-use mathlib.Core.Path.{_≡_, refl, sym, _∙_, ap}
-use mathlib.Core.Bool.{Bool, true, false, _&&_, _||_, false≢true}
+use Prim.Native.Nat.{ℕ, suc, _-_, _≤_, _<_}
+use mathlib.Core.Path.{_≡_}
+use mathlib.Core.Bool.{true, _&&_}
 use mathlib.Core.List.{List}
-use mathlib.Core.Logic.{_⊎_, inl, inr}
+use mathlib.Core.Logic.{inl, inr}
 use native.Mathlib.Omega.{arith}
 use borrow.Author.Tests.{eqb-true, leb-true}
-use lib.Dec.{eqb, leb}
 use Rattle.meaning.specs.Tests.{inTable}
-use Rattle.meaning.specs.Sheet.{Cells, scriptOf, sheetOf, types-of, names-of}
-use Rattle.meaning.specs.Kinds.{TypeRow, typeForm}
+use Rattle.meaning.specs.Sheet.{scriptOf, sheetOf, types-of, names-of}
 use Rattle.meaning.specs.Shape.{shapely, limits-ok, types-ok, names-ok, wordOk, wordsOk, typeUses, is-part, is-label, absent}
 use Rattle.meaning.specs.Laws.Bools.{and-left, and-right, either}
 use Rattle.meaning.specs.Laws.Tests.{in-table, table-low, table-high, every-at}

@@ -2,7 +2,7 @@
 use sheet::Layout;
 ghost use mathlib.Core.Path.{_≡_};
 ghost use mathlib.Core.Bool.{true, cond};
-ghost use Prim.Native.Nat.{ℕ, _+_, _<_, _≤_};
+ghost use Prim.Native.Nat.{_+_, _<_, _≤_};
 ghost use lib.ListN.{set, length};
 ghost use lib.Dec.{eqb};
 ghost use Rattle.meaning.specs.Sheet.{scriptOf};
@@ -44,7 +44,8 @@ fn fills(s: &[u8], l: Layout, i: usize, marked: &[u8; 33], full: &[u8; 513]) -> 
     }
 }
 
-fn digit(b: bool) -> u8
+// A flag as a digit.
+pub fn digit(b: bool) -> u8
     ensures { λ r. ⌜ eqb r 1 ≡ b ⌝ }
 {
     if b {

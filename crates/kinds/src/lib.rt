@@ -1,6 +1,7 @@
 // What each word of a row is for, by the row's kind, and whether it is what that use asks: the rules under "Tables" that speak of one row.
-use sheet::{Layout, Procedure, Row};
-
+use sheet::Layout;
+use sheet::Procedure;
+use sheet::Row;
 ghost use mathlib.Core.Path.{_≡_};
 ghost use mathlib.Core.Bool.{_&&_, cond};
 ghost use lib.Dec.{eqb};
@@ -14,12 +15,30 @@ ghost use Rattle.sheet.specs.Laid.{Laid, cellsOf, procedureOf};
 ghost use Rattle.kinds.specs.Told.{useOf, usesOf, isKnown, usesIn, Says, Calls};
 
 // What a word of a row is for.
-pub enum Use { Unused, Free, Label, Part, Link, Query, Name, Procedure, Tester, Size(usize) }
+pub enum Use {
+    Unused,
+    Free,
+    Label,
+    Part,
+    Link,
+    Query,
+    Name,
+    Procedure,
+    Tester,
+    Size(usize),
+}
 
-pub struct Uses { pub p: Use, pub q: Use, pub r: Use }
+pub struct Uses {
+    pub p: Use,
+    pub q: Use,
+    pub r: Use,
+}
 
 // The uses of a row's words, if its kind is one of its table's.
-pub enum Kinds { Known(Uses), Refused }
+pub enum Kinds {
+    Known(Uses),
+    Refused,
+}
 
 fn known(p: Use, q: Use, r: Use) -> Kinds
     ensures { λ k. ⌜ k ≡ Kinds.Known (record { p = p; q = q; r = r }) ⌝ }
@@ -78,7 +97,11 @@ pub fn query_uses(c: Row) -> Kinds
 fn argument(parameter: usize) -> Use
     ensures { λ u. ⌜ useOf u ≡ meaning.argument parameter ⌝ }
 {
-    if parameter == 0 { Use::Unused } else { Use::Query }
+    if parameter == 0 {
+        Use::Unused
+    } else {
+        Use::Query
+    }
 }
 
 // The word after a tester: a label if labels are tested.

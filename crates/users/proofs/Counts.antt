@@ -58,9 +58,11 @@ module _ {t : List ℕ} (T : Tally t) (w : ℕ) where
     where
       at : getD (set t w (getD t w 0 + 1)) w 0 ≡ getD t w 0 + 1
       at = getD-set-same t w (getD t w 0 + 1) 0 (omega (arith, T .size))
+
       go : (r : ℕ) → r ≤ 2048 → (b : Bool) → eqb w r ≡ b → getD (set t w (getD t w 0 + 1)) r 0 ≡ min 2 (getD t r 0 + cond b 1 0)
       go r h false d = getD-set-other t w r (getD t w 0 + 1) 0 (λ x. eqb-false w r d (sym x)) ∙ cut-low (getD t r 0) (T .small r h)
       go r h true d = subst (λ x. getD (set t w (getD t w 0 + 1)) x 0 ≡ min 2 (getD t x 0 + 1)) (eqb-true w r d) (let s = at in omega arith)
+
       small : (r : ℕ) → r ≤ 2048 → (b : Bool) → eqb w r ≡ b → getD (set t w (getD t w 0 + 1)) r 0 ≤ 2
       small r h b d = let s = go r h b d in omega arith
 

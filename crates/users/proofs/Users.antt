@@ -92,7 +92,7 @@ pub few : {s : List ℕ} {l : Layout} → Laid s l → limits-ok (sheetOf s) ≡
 unfolding limits-ok sheetOf scriptOf groveOf
 few {s} {l} L t =
     let fit = four-of-nine (leb (names-of s) most-names) (leb (types-of s) most-rows) (leb (queries-of s) most-rows) (leb (statements-of s) most-rows) (leb (procedures-of s) most-procedures)
-        (leb (rows-of s) most-forest-rows) (leb (pool-of s) most-pool) (leb (wordAt s 11) most-fuel) (leb (wordAt s 12) most-fuel) t in
+    (leb (rows-of s) most-forest-rows) (leb (pool-of s) most-pool) (leb (wordAt s 11) most-fuel) (leb (wordAt s 12) most-fuel) t in
     record {
       types = omega (arith, L .types, leb-true (types-of s) most-rows (fit .0));
       queries = omega (arith, L .queries, leb-true (queries-of s) most-rows (fit .1));

@@ -1,7 +1,9 @@
 // Exactly one user: the references to each row are counted in one pass, up to 2.
-use sheet::{Layout, Procedure, Row};
-use kinds::{Kinds, Use};
-
+use kinds::Kinds;
+use kinds::Use;
+use sheet::Layout;
+use sheet::Procedure;
+use sheet::Row;
 ghost use mathlib.Core.Path.{_≡_};
 ghost use mathlib.Core.Bool.{true, _&&_, cond};
 ghost use Prim.Native.Nat.{ℕ, _+_, _≤_};

@@ -1,11 +1,10 @@
 -- `barren::barren` meets its contract. The loop's invariant: so many rounds have been made (specs/Marks, `Turned`).
-use Prim.Native.Nat.{ℕ, _≤_, _-_, _+_}
-use mathlib.Core.Path.{_≡_, refl, sym, ap, _∙_}
+use Prim.Native.Nat.{ℕ, _≤_, _-_}
+use mathlib.Core.Path.{_≡_}
 use mathlib.Core.Bool.{true}
 use native.Mathlib.Omega.{arith}
 use borrow.Author.Needs.{needs}
 use lib.ListN.{length, length-replicate}
-use Rattle.meaning.specs.Sheet.{scriptOf}
 use Rattle.meaning.specs.Shape.{shapely}
 use Rattle.barren.specs.Rows.{names-high}
 use Rattle.barren.specs.Marks.{Turned, turned-none, turned-more, says-by}

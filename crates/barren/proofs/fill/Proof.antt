@@ -1,9 +1,8 @@
 -- `barren::fill` meets its contract. The loop's invariant: the rows below i are filled in.
-use Prim.Native.Nat.{ℕ, _≤_, _-_, _+_}
-use mathlib.Core.Path.{_≡_, refl, sym, ap, _∙_}
+use Prim.Native.Nat.{_≤_, _-_, _+_}
+use mathlib.Core.Path.{_∙_}
 use native.Mathlib.Omega.{arith}
 use borrow.Author.Needs.{needs}
-use Rattle.meaning.specs.Sheet.{scriptOf}
 use Rattle.barren.specs.Flags.{flag}
 use Rattle.barren.specs.Rows.{types-high}
 use Rattle.barren.specs.Marks.{Filled, filled-none, filled-more, filled-all}

@@ -1,10 +1,9 @@
 -- `barren::fills` meets its contract: kind by kind, by the laws of specs/Marks.
-use Prim.Native.Nat.{ℕ}
-use mathlib.Core.Path.{_≡_, sym, ap, _∙_}
+use mathlib.Core.Path.{sym, ap, _∙_}
 use native.Mathlib.Omega.{arith}
 use lib.ListN.{getD}
 use borrow.Author.Tests.{eq-eqb, ne-eqb}
-use Rattle.meaning.specs.Sheet.{Cells, scriptOf}
+use Rattle.meaning.specs.Sheet.{scriptOf}
 use Rattle.meaning.specs.Laws.Tests.{table-high}
 use Rattle.sheet.specs.Laid.{cellsOf}
 use Rattle.barren.specs.Flags.{flag, first-true, first-false, or-true, or-false}

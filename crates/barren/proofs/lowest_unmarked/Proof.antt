@@ -1,12 +1,11 @@
 -- `barren::lowest_unmarked` meets its contract. The loop's invariant: the names below x are marked.
-use Prim.Native.Nat.{ℕ, _≤_, _-_, _+_}
-use mathlib.Core.Path.{_≡_, refl}
+use Prim.Native.Nat.{_≤_, _-_, _+_}
 use native.Mathlib.Omega.{arith}
 use lib.ListN.{getD}
 use borrow.Author.Needs.{needs}
 use borrow.Author.Tests.{eq-eqb, ne-eqb}
 use Rattle.meaning.specs.Laws.Tests.{in-table}
-use Rattle.barren.specs.Marks.{AllMarked, LowestUnmarked, all-none, all-more, lowest-here, lowest-none}
+use Rattle.barren.specs.Marks.{AllMarked, all-none, all-more, lowest-here, lowest-none}
 use Rattle.barren.proofs.lowest_unmarked.Statement.{statement}
 use Rattle.barren.proofs.lowest_unmarked.Tie as tie
 use Rattle.barren.proofs.lowest_unmarked.Reads as reads

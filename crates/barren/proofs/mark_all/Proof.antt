@@ -1,9 +1,7 @@
 -- `barren::mark_all` meets its contract. The loop's invariant: the names below x have been looked at.
-use Prim.Native.Nat.{ℕ, _≤_, _-_, _+_}
-use mathlib.Core.Path.{_≡_, refl, sym, ap, _∙_}
+use Prim.Native.Nat.{_≤_, _-_, _+_}
 use native.Mathlib.Omega.{arith}
 use borrow.Author.Needs.{needs}
-use Rattle.meaning.specs.Sheet.{scriptOf}
 use Rattle.barren.specs.Flags.{flag}
 use Rattle.barren.specs.Rows.{in-names, names-high}
 use Rattle.barren.specs.Marks.{Rounding, rounding-none, rounding-more, rounding-all, content-fills}

@@ -1,0 +1,43 @@
+-- A forest variable more: its value, then the body in the scope with a place more.
+use native.Mathlib.Omega.{arith}
+use mathlib.Core.Path.{_∙_}
+use Rattle.meaning.specs.Run.{query-of}
+use Rattle.walk.specs.Meets.{ran-done, ran-not, met-stop, stop-then}
+use Rattle.ask.specs.Ask.{asks-part, asks-after, asks-with, a-place, fits-let, fits-more}
+use Rattle.ask.proofs.Laws.{let-met}
+use borrow.Author.Needs.{needs}
+use Prim.Native.Nat.{ℕ}
+use Rattle.ask.proofs.let_in.Reads as let-in-reads
+use Rattle.ask.proofs.+choose+each+for_each+join+let_in+pick+query+same+tree+turn.Lts-let_in as lts
+use Rattle.ask.proofs.+choose+each+for_each+join+let_in+pick+query+same+tree+turn.Proof.Base.{let-in-claims, let-in-at}
+
+query-requires : (t : ℕ) → lts.Need-query-requires (let-in-claims t) (let-in-at t) let-in-reads.Post
+query-requires t c κs = (omega (arith, c .before .before .before .pre .0), asks-part (c .before .before .before .pre .1) ((fits-let (c .before .before .before .args .s .now) (c .before .before .before .args .depth) (c .before .before .before .args .scope) (c .before .before .before .args .p) (c .before .before .before .args .q) (c .before .before .before .pre .1 .scope)) .0))
+
+enum-known-why : (t : ℕ) → lts.Need-enum-known-why (let-in-claims t) (let-in-at t) let-in-reads.Post
+enum-known-why t c = search needs
+
+enum-known-root : (t : ℕ) → lts.Need-enum-known-root (let-in-claims t) (let-in-at t) let-in-reads.Post
+enum-known-root t c = search needs
+
+with-requires : (t : ℕ) → lts.Need-with-requires (let-in-claims t) (let-in-at t) let-in-reads.Post
+with-requires t c κs = ((a-place (c .before .before .before .before .before .before .before .before .before .before .pre .1 .ready .scoped) ((fits-let (c .before .before .before .before .before .before .before .before .before .before .args .s .now) (c .before .before .before .before .before .before .before .before .before .before .args .depth) (c .before .before .before .before .before .before .before .before .before .before .args .scope) (c .before .before .before .before .before .before .before .before .before .before .args .p) (c .before .before .before .before .before .before .before .before .before .before .args .q) (c .before .before .before .before .before .before .before .before .before .before .pre .1 .scope)) .1)), c .before .before .before .before .before .before .before .before .before .before .pre .1 .ready .scoped .sixteen)
+
+query-requires-2 : (t : ℕ) → lts.Need-query-requires-2 (let-in-claims t) (let-in-at t) let-in-reads.Post
+query-requires-2 t c κs = (omega (arith, c .before .before .before .before .before .before .before .before .before .before .before .pre .0), asks-with (asks-after (c .before .before .before .before .before .before .before .before .before .before .before .pre .1) 0 (c .before .before .before .before .before .before .before .query .kept .1 .1 .0) (ran-done (c .before .before .before .root .given .1) (c .before .before .before .before .before .before .before .query .ensures)) (omega arith) (c .before .before .before .before .before .before .before .before .before .before .before .pre .1 .scope)) (c .with .ensures) (a-place (c .before .before .before .before .before .before .before .before .before .before .before .pre .1 .ready .scoped) ((fits-let (c .before .before .before .before .before .before .before .before .before .before .before .args .s .now) (c .before .before .before .before .before .before .before .before .before .before .before .args .depth) (c .before .before .before .before .before .before .before .before .before .before .before .args .scope) (c .before .before .before .before .before .before .before .before .before .before .before .args .p) (c .before .before .before .before .before .before .before .before .before .before .before .args .q) (c .before .before .before .before .before .before .before .before .before .before .before .pre .1 .scope)) .1)) ((ran-done (c .before .before .before .root .given .1) (c .before .before .before .before .before .before .before .query .ensures)) .inside) (fits-more (c .before .before .before .before .before .before .before .before .before .before .before .args .s .now) (c .before .before .before .before .before .before .before .before .before .before .before .args .depth) (c .before .before .before .before .before .before .before .before .before .before .before .args .scope) (c .before .before .before .before .before .before .before .before .before .before .before .args .q) (c .with .ensures) ((fits-let (c .before .before .before .before .before .before .before .before .before .before .before .args .s .now) (c .before .before .before .before .before .before .before .before .before .before .before .args .depth) (c .before .before .before .before .before .before .before .before .before .before .before .args .scope) (c .before .before .before .before .before .before .before .before .before .before .before .args .p) (c .before .before .before .before .before .before .before .before .before .before .before .args .q) (c .before .before .before .before .before .before .before .before .before .before .before .pre .1 .scope)) .2)))
+
+same-length : (t : ℕ) → lts.Need-same-length (let-in-claims t) (let-in-at t) let-in-reads.Post
+same-length t c = (c .before .before .before .before .before .query .kept .1 .1 .0)
+
+returns : (t : ℕ) → lts.Need-returns (let-in-claims t) (let-in-at t) let-in-reads.Post
+unfolding query-of
+returns t c = met-stop (stop-then _ (ran-not (c .before .why .given .1) (c .before .before .before .before .before .query .ensures)))
+
+same-length-2 : (t : ℕ) → lts.Need-same-length-2 (let-in-claims t) (let-in-at t) let-in-reads.Post
+same-length-2 t c = c .before .before .query2 .kept .1 .1 .0 ∙ (c .before .before .before .before .before .before .before .before .before .before .query .kept .1 .1 .0)
+
+returns-2 : (t : ℕ) → lts.Need-returns-2 (let-in-claims t) (let-in-at t) let-in-reads.Post
+returns-2 t c = let-met (c .before .before .before .before .before .before .before .before .before .before .before .before .before .before .args .s .now) (c .before .before .before .before .before .before .before .before .before .before .before .before .before .before .args .depth) (c .before .before .before .before .before .before .before .before .before .before .before .before .before .before .pre .1 .ready) (c .before .before .before .before .before .before .before .before .before .before .before .before .before .before .args .p) (ran-done (c .before .before .before .before .before .before .root .given .1) (c .before .before .before .before .before .before .before .before .before .before .query .ensures)) (c .before .before .before .before .before .before .before .before .before .before .before .before .before .before .args .q) (c .before .before .before .with .ensures) (c .before .before .query2 .ensures .met)
+
+pub met : {M : Type 1} (t : ℕ) → lts.Closed (let-in-claims t) (let-in-at t) let-in-reads.Post M
+met t = lts.spec (let-in-claims t) (let-in-at t) let-in-reads.Post (query-requires t) (enum-known-why t) (enum-known-root t) (with-requires t) (query-requires-2 t) (same-length t) (returns t) (same-length-2 t) (returns-2 t)

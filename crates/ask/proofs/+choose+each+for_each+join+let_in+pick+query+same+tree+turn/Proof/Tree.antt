@@ -1,0 +1,41 @@
+-- A labelled tree: its children, then one copy.
+use native.Mathlib.Omega.{arith}
+use mathlib.Core.Path.{_∙_}
+use Rattle.meaning.specs.Run.{query-of}
+use Rattle.walk.specs.Meets.{ran-done, ran-not, met-stop, met-then, stop-then, roomy-after}
+use Rattle.rows.specs.Asks.{node-asks}
+use Rattle.ask.specs.Ask.{pool, asks-part, fits-tree}
+use borrow.Author.Needs.{needs}
+use Prim.Native.Nat.{ℕ}
+use Rattle.ask.proofs.tree.Reads as tree-reads
+use Rattle.ask.proofs.+choose+each+for_each+join+let_in+pick+query+same+tree+turn.Lts-tree as lts
+use Rattle.ask.proofs.+choose+each+for_each+join+let_in+pick+query+same+tree+turn.Proof.Base.{tree-claims, tree-at}
+
+query-requires : (t : ℕ) → lts.Need-query-requires (tree-claims t) (tree-at t) tree-reads.Post
+query-requires t c κs = (omega (arith, c .before .before .before .pre .0), asks-part (c .before .before .before .pre .1 .0) (fits-tree (c .before .before .before .args .s .now) (c .before .before .before .args .depth) (c .before .before .before .args .scope) (c .before .before .before .args .label) (c .before .before .before .args .q) (c .before .before .before .pre .1 .0 .scope)))
+
+enum-known-why : (t : ℕ) → lts.Need-enum-known-why (tree-claims t) (tree-at t) tree-reads.Post
+enum-known-why t c = search needs
+
+enum-known-root : (t : ℕ) → lts.Need-enum-known-root (tree-claims t) (tree-at t) tree-reads.Post
+enum-known-root t c = search needs
+
+make-requires : (t : ℕ) → lts.Need-make-requires (tree-claims t) (tree-at t) tree-reads.Post
+make-requires t c κs = node-asks (c .before .before .before .before .before .before .before .before .before .before .args .label) _ (roomy-after (c .before .before .before .before .before .before .before .before .before .before .pre .1 .0 .ready .roomy) (c .before .before .before .before .before .before .query .kept .1 .1 .0) (ran-done (c .before .before .root .given .1) (c .before .before .before .before .before .before .query .ensures))) (c .before .before .before .before .before .before .before .before .before .before .pre .1 .1) ((ran-done (c .before .before .root .given .1) (c .before .before .before .before .before .before .query .ensures)) .inside)
+
+same-length : (t : ℕ) → lts.Need-same-length (tree-claims t) (tree-at t) tree-reads.Post
+same-length t c = (c .before .before .before .before .before .query .kept .1 .1 .0)
+
+returns : (t : ℕ) → lts.Need-returns (tree-claims t) (tree-at t) tree-reads.Post
+unfolding query-of
+returns t c = met-stop (stop-then _ (ran-not (c .before .why .given .1) (c .before .before .before .before .before .query .ensures)))
+
+same-length-2 : (t : ℕ) → lts.Need-same-length-2 (tree-claims t) (tree-at t) tree-reads.Post
+same-length-2 t c = c .before .before .make .kept .0 ∙ (c .before .before .before .before .before .before .before .before .before .query .kept .1 .1 .0)
+
+returns-2 : (t : ℕ) → lts.Need-returns-2 (tree-claims t) (tree-at t) tree-reads.Post
+unfolding query-of
+returns-2 t c = met-then _ (ran-done (c .before .before .before .before .before .root .given .1) (c .before .before .before .before .before .before .before .before .before .query .ensures)) (c .before .before .make .ensures (pool (c .before .before .before .before .before .before .before .before .before .before .before .before .before .args .s .now)))
+
+pub met : {M : Type 1} (t : ℕ) → lts.Closed (tree-claims t) (tree-at t) tree-reads.Post M
+met t = lts.spec (tree-claims t) (tree-at t) tree-reads.Post (query-requires t) (enum-known-why t) (enum-known-root t) (make-requires t) (same-length t) (returns t) (same-length-2 t) (returns-2 t)

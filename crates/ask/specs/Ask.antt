@@ -1,0 +1,221 @@
+-- What a query asks and what it goes as: the walk of a row in the rows as they are. The scope finds its places by Shape's test, in as many steps as there are levels of depth left.
+use Prim.Native.Nat.{ℕ, suc, _+_, _-_, _≤_, _<_}
+use native.Mathlib.Omega.{arith}
+use mathlib.Core.Path.{_≡_, refl, sym, ap, _∙_, subst}
+use mathlib.Core.Bool.{Bool, true, _&&_, cond}
+use mathlib.Core.List.{List, [], _∷_, _++_}
+use borrow.Author.Tests.{ltb-true}
+use lib.Dec.{eqb}
+use lib.ListN.{length}
+use lib.Seq.{length-take-le}
+use Rattle.meaning.specs.Sheet.{scriptOf, groveOf}
+use Rattle.meaning.specs.Kinds.{Query, queryForm, queryAt}
+use Rattle.meaning.specs.Forest.{Forest, forestAt}
+use Rattle.meaning.specs.Shape.{Holds, a-forest, a-tree, has-place, query-scope, query-scoped}
+use Rattle.meaning.specs.Walk.{Quiet, tick}
+use Rattle.meaning.specs.Run.{query, query-of}
+use Rattle.meaning.specs.Laws.Bools.{and-left, and-right}
+use Rattle.meaning.specs.Laws.Rows.{LowRows, SameRows}
+use Rattle.meaning.specs.Theorems.ReadBack.{lentRow}
+use Rattle.sheet.specs.Laid.{Laid, cellsOf}
+use Rattle.sheet.specs.declared.Layout.{Layout}
+use Rattle.sheet.specs.declared.Row.{Row}
+use Rattle.walk.specs.Scope.{live, envOf, Scoped, More, scoped-with, env-same, env-with}
+use Rattle.walk.specs.Meets.{Ready, Finished, Stopped, Meets, Ran, ran-tick, stop-tick, stop-depth, ready-after, ready-less}
+use Rattle.walk.specs.declared.Place.{Place}
+use Rattle.walk.specs.declared.Scope.{Scope}
+use Rattle.walk.specs.declared.Purse.{Purse}
+use Rattle.walk.specs.declared.Answer.{Answer}
+use Rattle.walk.specs.declared.Stop.the-variants.{Fuel, Depth}
+
+-- the layout is the sheet's, as one fact
+unfoldable pub Lay : List ℕ → Layout → Type 0
+Lay s l = Laid s l
+
+pub lay-of : (s : List ℕ) (l : Layout) → Laid s l → Lay s l
+unfolding Lay
+lay-of s l h = h
+
+pub laid-of : (s : List ℕ) (l : Layout) → Lay s l → Laid s l
+unfolding Lay
+laid-of s l h = h
+
+-- ---- a scope's shape: a place of kind 2 holds a tree
+
+abbrev pub holdsOf : ℕ → Holds
+holdsOf k = cond (eqb k 2) a-tree a-forest
+
+unfoldable pub held : List Place → List Holds
+held [] = []
+held (p ∷ l) = holdsOf (p .kind) ∷ held l
+
+abbrev pub shapeOf : Scope → List Holds
+shapeOf e = held (live e)
+
+-- Shape's test of a query row, of what a row says, and of a body with a tree variable more
+abbrev pub fits : List ℕ → ℕ → Scope → ℕ → Bool
+fits s d e at = query-scoped (scriptOf s) d (shapeOf e) at
+
+abbrev pub fits-row : List ℕ → ℕ → Scope → Query → Bool
+fits-row s d e form = query-scope form (query-scoped (scriptOf s) d) (shapeOf e)
+
+abbrev pub fits-body : List ℕ → ℕ → Scope → ℕ → Bool
+fits-body s d e at = has-place (shapeOf e) && query-scoped (scriptOf s) d (shapeOf e ++ a-tree ∷ []) at
+
+-- ---- the walks
+
+abbrev pub pool : List ℕ → ℕ → ℕ
+pool s = groveOf s .byte
+
+-- of a query row, of what a row says, and of a body on a tree
+abbrev pub asked : List ℕ → List ℕ → Scope → ℕ → ℕ → Quiet Forest
+asked s rows e d at = query (scriptOf s) (pool s) d (envOf (pool s) rows e) at
+
+abbrev pub row-asked : List ℕ → List ℕ → Scope → ℕ → ℕ → Query → Quiet Forest
+row-asked s rows e d at form = query-of (pool s) form at (query (scriptOf s) (pool s) d) (envOf (pool s) rows e)
+
+abbrev pub body-asked : List ℕ → List ℕ → Scope → ℕ → ℕ → Forest → Quiet Forest
+body-asked s rows e d at = λ t. query (scriptOf s) (pool s) d (envOf (pool s) rows e ++ t ∷ []) at
+
+-- ---- what an evaluator asks
+
+pub record Asks (s : List ℕ) (l : Layout) (rows : List ℕ) (e : Scope) (used focus left : ℕ) (fit : Bool) : Type 0 where
+  pub laid : Lay s l
+  pub ready : Ready rows e used focus left
+  pub scope : fit ≡ true
+
+module _ {s : List ℕ} {l : Layout} {rows : List ℕ} {e : Scope} {used focus left : ℕ} {fit : Bool} (a : Asks s l rows e used focus left fit) where
+  -- a part, at once
+  pub asks-part : {fit' : Bool} → fit' ≡ true → Asks s l rows e used focus left fit'
+  asks-part h = record { laid = a .laid; ready = a .ready; scope = h }
+
+  -- with units paid
+  pub asks-less : {fit' : Bool} (left' n focus' : ℕ) → left' + n ≡ left → focus' ≤ used → fit' ≡ true → Asks s l rows e used focus' left' fit'
+  asks-less left' n focus' p h f = record { laid = a .laid; ready = ready-less left' n focus' (a .ready) p h; scope = f }
+
+  -- from where an evaluator left off
+  pub asks-after : {w : Quiet Forest} {byte : ℕ → ℕ} {t : List ℕ} {fit' : Bool} {root used' left' : ℕ} (focus' : ℕ) → length t ≡ length rows → Finished w byte left used rows t root used' left' → focus' ≤ used' → fit' ≡ true → Asks s l t e used' focus' left' fit'
+  asks-after focus' n f h g = record { laid = a .laid; ready = ready-after focus' (a .ready) n f h; scope = g }
+
+  -- with a place more
+  pub asks-with : {e' : Scope} {fit' : Bool} {k v : ℕ} → More e e' k v → e .count < 16 → v ≤ used → fit' ≡ true → Asks s l rows e' used focus left fit'
+  asks-with {e'} m h i g = record { laid = a .laid; ready = record { roomy = a .ready .roomy; scoped = scoped-with (a .ready .scoped) h i m; focus = a .ready .focus }; scope = g }
+
+-- ---- Shape's test, taken apart
+
+held-length : (l : List Place) → length (held l) ≡ length l
+unfolding held
+held-length [] = refl
+held-length (p ∷ l) = ap suc (held-length l)
+
+held-last : (l : List Place) (p : Place) → held (l ++ p ∷ []) ≡ held l ++ holdsOf (p .kind) ∷ []
+unfolding held
+held-last [] p = refl
+held-last (o ∷ l) p = ap (λ (x : List Holds). holdsOf (o .kind) ∷ x) (held-last l p)
+
+-- the shape with a place more
+pub shape-with : {e e' : Scope} {k v : ℕ} → More e e' k v → shapeOf e' ≡ shapeOf e ++ holdsOf k ∷ []
+shape-with {e} {e'} {k} {v} m = ap held (m .live) ∙ held-last (live e) (record { kind = k; value = v })
+
+-- a binder finds a place
+pub a-place : {n : ℕ} {e : Scope} → Scoped n e → has-place (shapeOf e) ≡ true → e .count < 16
+a-place {n} {e} c h =
+    let full = length-take-le (e .count) (e .places) (omega (arith, c .few, c .sixteen)) in
+    let lt = ltb-true (length (shapeOf e)) 16 h in
+    omega (arith, held-length (live e))
+
+module _ (s : List ℕ) (d : ℕ) (e : Scope) where
+  abbrev go : List Holds → ℕ → Bool
+  go = query-scoped (scriptOf s) d
+
+  pub fits-join : (p q : ℕ) → fits-row s d e (Query.join p q) ≡ true → (fits s d e p ≡ true) × (fits s d e q ≡ true)
+  unfolding query-scope
+  fits-join p q h = (and-left (fits s d e p) (fits s d e q) h, and-right (fits s d e p) (fits s d e q) h)
+
+  pub fits-same : (p q : ℕ) → fits-row s d e (Query.same p q) ≡ true → (fits s d e p ≡ true) × (fits s d e q ≡ true)
+  unfolding query-scope
+  fits-same p q h = (and-left (fits s d e p) (fits s d e q) h, and-right (fits s d e p) (fits s d e q) h)
+
+  pub fits-tree : (n q : ℕ) → fits-row s d e (Query.tree n q) ≡ true → fits s d e q ≡ true
+  unfolding query-scope
+  fits-tree n q h = h
+
+  pub fits-pick : (p n : ℕ) → fits-row s d e (Query.pick p n) ≡ true → fits s d e p ≡ true
+  unfolding query-scope
+  fits-pick p n h = h
+
+  pub fits-if : (p q r : ℕ) → fits-row s d e (Query.if p q r) ≡ true → (fits s d e p ≡ true) × (fits s d e q ≡ true) × (fits s d e r ≡ true)
+  unfolding query-scope
+  fits-if p q r h =
+      let pq = and-left (fits s d e p && fits s d e q) (fits s d e r) h in
+      (and-left (fits s d e p) (fits s d e q) pq, and-right (fits s d e p) (fits s d e q) pq, and-right (fits s d e p && fits s d e q) (fits s d e r) h)
+
+  pub fits-let : (p q : ℕ) → fits-row s d e (Query.letin p q) ≡ true → (fits s d e p ≡ true) × (has-place (shapeOf e) ≡ true) × (go (shapeOf e ++ a-forest ∷ []) q ≡ true)
+  unfolding query-scope
+  fits-let p q h =
+      let pq = and-left (fits s d e p && has-place (shapeOf e)) (go (shapeOf e ++ a-forest ∷ []) q) h in
+      (and-left (fits s d e p) (has-place (shapeOf e)) pq, and-right (fits s d e p) (has-place (shapeOf e)) pq, and-right (fits s d e p && has-place (shapeOf e)) (go (shapeOf e ++ a-forest ∷ []) q) h)
+
+  pub fits-for : (p q : ℕ) → fits-row s d e (Query.for p q) ≡ true → (fits s d e p ≡ true) × (fits-body s d e q ≡ true)
+  unfolding query-scope
+  fits-for p q h =
+      let pq = and-left (fits s d e p && has-place (shapeOf e)) (go (shapeOf e ++ a-tree ∷ []) q) h in
+      let b = and-right (fits s d e p && has-place (shapeOf e)) (go (shapeOf e ++ a-tree ∷ []) q) h in
+      (and-left (fits s d e p) (has-place (shapeOf e)) pq, rw (and-right (fits s d e p) (has-place (shapeOf e)) pq, b))
+
+  pub fits-turn : (q : ℕ) → fits-body s d e q ≡ true → (has-place (shapeOf e) ≡ true) × (go (shapeOf e ++ a-tree ∷ []) q ≡ true)
+  fits-turn q h = (and-left (has-place (shapeOf e)) (go (shapeOf e ++ a-tree ∷ []) q) h, and-right (has-place (shapeOf e)) (go (shapeOf e ++ a-tree ∷ []) q) h)
+
+  -- with the place
+  pub fits-more : {e' : Scope} {k v : ℕ} (q : ℕ) → More e e' k v → go (shapeOf e ++ holdsOf k ∷ []) q ≡ true → fits s d e' q ≡ true
+  fits-more q m h = ap (λ (x : List Holds). go x q) (shape-with m) ∙ h
+
+-- ---- what a row says
+
+module _ (s : List ℕ) (at : ℕ) (c : Row) (is : cellsOf c ≡ scriptOf s .queryRow at) where
+  pub form-is : (n : ℕ) → c .kind ≡ n → queryAt (scriptOf s) at ≡ queryForm (record { kind = n; p = c .p; q = c .q; r = c .r })
+  form-is n e = ap queryForm (sym is) ∙ ap (λ (j : ℕ). queryForm (record { kind = j; p = c .p; q = c .q; r = c .r })) e
+
+  pub form-none : 14 ≤ c .kind → queryAt (scriptOf s) at ≡ Query.none
+  form-none h =
+      let e : c .kind ≡ suc (suc (suc (suc (suc (suc (suc (suc (suc (suc (suc (suc (suc (suc (c .kind - 14)))))))))))))) = omega arith in
+      form-is (suc (suc (suc (suc (suc (suc (suc (suc (suc (suc (suc (suc (suc (suc (c .kind - 14))))))))))))))) e
+
+module _ (s : List ℕ) (e : Scope) (d at : ℕ) {form : Query} (some : d ≡ 0 → ⊥) (is : queryAt (scriptOf s) at ≡ form) where
+  deeper : d ≡ suc (d - 1)
+  deeper = omega arith
+
+  pub fits-form : fits s d e at ≡ true → fits-row s (d - 1) e form ≡ true
+  unfolding query-scoped
+  fits-form h = ap (λ (x : Query). fits-row s (d - 1) e x) (sym is) ∙ ap (λ (n : ℕ). fits s n e at) (sym deeper) ∙ h
+
+  asked-is : (rows : List ℕ) → asked s rows e d at ≡ tick (row-asked s rows e (d - 1) at form)
+  unfolding query
+  asked-is rows = ap (λ (n : ℕ). asked s rows e n at) deeper ∙ ap (λ (x : Query). tick (row-asked s rows e (d - 1) at x)) is
+
+  pub ask-as : {rows new : List ℕ} {left' used : ℕ} {a : Answer} (left : ℕ) → left' + 1 ≡ left → Meets (row-asked s rows e (d - 1) at form) (pool s) left' used rows new a → Ran (asked s rows e d at) (pool s) left used rows new a
+  ask-as {rows} {new} {left'} {used} {a} left p m = subst (λ (w : Quiet Forest). Ran w (pool s) left used rows new a) (sym (asked-is rows)) (ran-tick left p m)
+
+module _ (s rows : List ℕ) (e : Scope) (d at : ℕ) where
+  pub ask-deep : (p : Purse) → d ≡ 0 → Stopped (asked s rows e d at) (p .left) (Depth p)
+  unfolding query
+  ask-deep p h = subst (λ (n : ℕ). Stopped (asked s rows e n at) (p .left) (Depth p)) (sym h) (stop-depth p)
+
+  pub ask-fuel : (left : ℕ) → (d ≡ 0 → ⊥) → left < 1 → Stopped (asked s rows e d at) left Fuel
+  ask-fuel left some h = subst (λ (w : Quiet Forest). Stopped w left Fuel) (sym (asked-is s e d at some refl rows)) (stop-tick (row-asked s rows e (d - 1) at (queryAt (scriptOf s) at)) left h)
+
+-- ---- after a part: the environment is as it was
+
+module _ (s rows t : List ℕ) {e : Scope} {n : ℕ} (low : LowRows (lentRow rows) n) (same : SameRows (lentRow rows) (lentRow t) n) (scoped : Scoped n e) where
+  pub env-after : envOf (pool s) t e ≡ envOf (pool s) rows e
+  env-after = env-same (pool s) rows t low same scoped
+
+  pub asked-after : (d at : ℕ) → asked s t e d at ≡ asked s rows e d at
+  asked-after d at = ap (λ (γ : List Forest). query (scriptOf s) (pool s) d γ at) env-after
+
+  pub body-after : (d at : ℕ) → body-asked s t e d at ≡ body-asked s rows e d at
+  body-after d at = ap (λ (γ : List Forest). λ (x : Forest). query (scriptOf s) (pool s) d (γ ++ x ∷ []) at) env-after
+
+  -- with a place more
+  pub asked-with : {e' : Scope} {k v : ℕ} (d at : ℕ) → More e e' k v → asked s t e' d at ≡ body-asked s rows e d at (forestAt (pool s) (lentRow t) v)
+  asked-with {e'} {k} {v} d at m = ap (λ (γ : List Forest). query (scriptOf s) (pool s) d γ at) (env-with (pool s) t m ∙ ap (λ (γ : List Forest). γ ++ forestAt (pool s) (lentRow t) v ∷ []) env-after)

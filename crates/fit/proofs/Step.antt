@@ -1,0 +1,228 @@
+-- One step of the walk is exact: where no rivals stand at a point, the one place with the tree's head is the only one that the tree can take. From `Single` (Held) and what the tables hold (`Ready`).
+use Prim.Native.Nat.{ℕ, zero, suc, _≤_, _<_}
+use mathlib.Core.Path.{_≡_, refl, sym, _∙_, ap}
+use mathlib.Core.Bool.{Bool, true, false, _&&_, _||_, cond}
+use mathlib.Core.List.{List, [], _∷_, _++_, append-assoc}
+use mathlib.Core.Logic.{inl, inr}
+use native.Mathlib.Omega.{arith}
+use lib.Dec.{eqb}
+use lib.ListN.{getD}
+use borrow.Author.Tests.{eqb-true, eq-eqb, ne-eqb, lt-ltb}
+use Rattle.meaning.specs.Tests.{inTable}
+use Rattle.meaning.specs.Sheet.{Cells, scriptOf, groveOf}
+use Rattle.meaning.specs.Forest.{Tree, cons, treeForm}
+use Rattle.meaning.specs.Types.{Head}
+use Rattle.meaning.specs.Places.{Model, nullable, first, last, follows, start, next, headOf, headAt, Admits}
+use Rattle.meaning.specs.Laws.Bools.{or-cases, and-left, and-right, and-both, not-both}
+use Rattle.meaning.specs.Laws.Tests.{in-table, table-high}
+use Rattle.meaning.specs.Laws.Rows.{forestAt-suc}
+use Rattle.meaning.specs.Laws.Models.{follows-word}
+use Rattle.meaning.specs.Laws.Wired.{has}
+use Rattle.meaning.specs.Laws.Apart.{word-has, model-placed, model-below, shaped-lower}
+use Rattle.barren.specs.Rows.{few-types}
+use Rattle.bits.specs.Sets.{inSet}
+use Rattle.sheet.specs.declared.Layout.{Layout}
+use Rattle.places.specs.Firsts.{first-has}
+use Rattle.places.specs.Tables.{modelOf}
+use Rattle.ties.specs.Heads.{actingAt, headNumber}
+use Rattle.fit.specs.Fitting.{treeNumber, Looked, point, treesAt, GoesOn, Inside, Ready, Walks, Walking}
+use Rattle.fit.proofs.Held.{Single, single}
+use Rattle.fit.proofs.Shaped.{Sort, a-text, a-bool, a-node, Acts, acts-text, acts-bool, acts-label, tree-row, low-rows, acts}
+use Rattle.fit.proofs.Heads.{treeHead, numberOf, Small, small-number, one-head, place-number, place-small, tree-number, tree-small, fits-head, fits-inside, head-fits}
+
+-- ---- what stands at a point is a place
+
+start-first : (m : Model) (b : ℕ) → 1 ≤ b → start m b ≡ true → first m b ≡ true
+start-first m b l h = elim (or-cases (first m b) (nullable m && eqb 0 b) h) [
+  | inl x ↦ x
+  | inr x ↦ absurd (omega (arith, eqb-true 0 b (and-right (nullable m) (eqb 0 b) x)))
+]
+
+next-follows : (m : Model) (a b : ℕ) → 1 ≤ b → next m a b ≡ true → follows m a b ≡ true
+next-follows m a b l h = elim (or-cases (follows m a b) (last m a && eqb 0 b) h) [
+  | inl x ↦ x
+  | inr x ↦ absurd (omega (arith, eqb-true 0 b (and-right (last m a) (eqb 0 b) x)))
+]
+
+follows-has : (m : Model) (a b : ℕ) → follows m a b ≡ true → has m b ≡ true
+follows-has m a b e = let x = follows-word m a b .0 e in word-has (x .2) b (x .0 ++ a ∷ []) (x .1) (sym (append-assoc (x .0) (a ∷ []) (b ∷ x .1)))
+
+-- a place with a label's number has a content
+content-row : (n : ℕ) (d : Cells) → Acts n d → numberOf (headOf d) ≤ 1023 → (d .kind ≡ 4) × (inTable n (d .q) ≡ true)
+content-row n d (acts-text e) l = let g : 1024 ≤ 1023 = rw e at l in absurd (omega arith)
+content-row n d (acts-bool e) l = let g : 1025 ≤ 1023 = rw e at l in absurd (omega arith)
+content-row n d (acts-label e p q) l = (e, q)
+
+node-row : (c : Cells) (r : ℕ) → Sort c r → c .kind ≡ 4 → (treeNumber c ≤ 1023) × (c .q < r)
+node-row c r (a-text e) k = absurd (omega arith)
+node-row c r (a-bool (inl e)) k = absurd (omega arith)
+node-row c r (a-bool (inr e)) k = absurd (omega arith)
+node-row c r (a-node e p q) k = (rw e p, q)
+
+-- ---- a point of the model at row k, in the tables
+
+module _ {s : List ℕ} {l : Layout} {null firsts behind class same : List ℕ} (R : Ready s l null firsts behind class same)
+    {r₀ k : ℕ} {t : List ℕ} (W : Walks s r₀ k t) where
+  K : inTable (scriptOf s .types) k ≡ true
+  K = W .is-type
+
+  abbrev m : Model
+  m = modelOf s k
+
+  abbrev head : ℕ → Head
+  head a = headAt (scriptOf s .typeRow) (scriptOf s .nameRow) a
+
+  pub place-low : (a : ℕ) → has m a ≡ true → 1 ≤ a
+  place-low a h = model-placed (scriptOf s .typeRow) (scriptOf s .nameRow) (shaped-lower s (R .shaped)) k a h
+
+  pub place-high : (a : ℕ) → has m a ≡ true → a ≤ 512
+  place-high a h = omega (arith, model-below (scriptOf s .typeRow) (scriptOf s .nameRow) (shaped-lower s (R .shaped)) k a h, table-high (scriptOf s .types) k K, few-types s (R .shaped))
+
+  -- where the walk stands: at the start, or behind a place
+  abbrev Stands : Bool → ℕ → Type 0
+  Stands fresh a = (fresh ≡ true → a ≡ k) × (fresh ≡ false → has m a ≡ true)
+
+  pub point-index : (fresh : Bool) (a : ℕ) → Stands fresh a → a ≤ 512
+  point-index true a w = omega (arith, w .0 refl, table-high (scriptOf s .types) k K, few-types s (R .shaped))
+  point-index false a w = place-high a (w .1 refl)
+
+  point-set : (fresh : Bool) (a : ℕ) → Stands fresh a → (b : ℕ) → 1 ≤ b → b < 576 → inSet (cond fresh firsts t) a b ≡ point m fresh a b
+  point-set true a w b l h = rw (w .0 refl) ((rw (lt-ltb b 576 h) at (R .tables .begin k K b)) ∙ begins (first m b) (nullable m) (eqb 0 b) (ne-eqb 0 b (λ e. omega arith)))
+    where
+      begins : (f n z : Bool) → z ≡ false → f ≡ f || n && z
+      begins true n z e = refl
+      begins false true z e = sym e
+      begins false false z e = refl
+  point-set false a w b l h = W .nexts a (w .1 refl) b h
+
+  point-has : (fresh : Bool) (a b : ℕ) → 1 ≤ b → point m fresh a b ≡ true → has m b ≡ true
+  point-has true a b l h = first-has m b (start-first m b l h)
+  point-has false a b l h = follows-has m a b (next-follows m a b l h)
+
+  point-single : (fresh : Bool) (c a b : ℕ) → 1 ≤ a → 1 ≤ b → point m fresh c a ≡ true → point m fresh c b ≡ true → head a ≡ head b → a ≡ b
+  point-single true c a b p q x y h = single s (R .shaped) (R .untied) k K .begin a b (start-first m a p x) (start-first m b q y) h
+  point-single false c a b p q x y h = single s (R .shaped) (R .untied) k K .behind c a b (next-follows m c a p x) (next-follows m c b q y) h
+
+  -- the walk may end: at the start if the model may be empty, and else if End stands behind the place
+  pub end-start : (a : ℕ) → a ≡ k → eqb (getD null a 0) 1 ≡ start m 0
+  end-start a e = rw e (R .tables .empty k K ∙ ends (first m 0) (nullable m) (λ h. omega (arith, place-low 0 (first-has m 0 h))))
+    where
+      ends : (f n : Bool) → (f ≡ true → ⊥) → n ≡ f || n && true
+      ends true n h = absurd (h refl)
+      ends false true h = refl
+      ends false false h = refl
+
+  module _ {r : ℕ} {fresh : Bool} {a : ℕ} (Y : Walking s r₀ k r fresh a) (z : r ≡ 0 → ⊥) {b : ℕ}
+      (L : Looked (cond fresh firsts t) a (treeNumber (groveOf s .row r)) class same b) where
+    w : Stands fresh a
+    w = (Y .at-start, Y .at-place)
+
+    low : 1 ≤ r
+    low = omega arith
+
+    high : r ≤ groveOf s .rows
+    high = omega (arith, Y .low, W .is-tree)
+
+    abbrev c : Cells
+    c = groveOf s .row r
+
+    abbrev tree : Tree
+    tree = treeForm (groveOf s .byte) c (treesAt s (c .q))
+
+    sort : Sort c r
+    sort = tree-row s (R .shaped) r low high .sort
+
+    number : treeNumber c ≡ numberOf (treeHead tree)
+    number = tree-number (groveOf s .byte) c r (treesAt s (c .q)) sort
+
+    small : Small (treeHead tree)
+    small = tree-small (groveOf s .byte) c r (treesAt s (c .q)) sort
+
+    numbered : treeNumber c < 1026
+    numbered = omega (arith, number, small-number (treeHead tree) small)
+
+    -- a place has the tree's number exactly if it has its head
+    has-head : (x : ℕ) → has m x ≡ true → headNumber s x ≡ treeNumber c → head x ≡ treeHead tree
+    has-head x h e = let z = acts s (R .shaped) k x h in
+        one-head (head x) (treeHead tree) (place-small (scriptOf s .types) (actingAt s x) z) small (sym (place-number (scriptOf s .types) s x z) ∙ e ∙ number)
+
+    has-number : (x : ℕ) → has m x ≡ true → head x ≡ treeHead tree → headNumber s x ≡ treeNumber c
+    has-number x h e = place-number (scriptOf s .types) s x (acts s (R .shaped) k x h) ∙ ap numberOf e ∙ sym number
+
+    -- a place with the tree's number is in its class, and what is in the class has the number
+    in-class : (x : ℕ) → has m x ≡ true → headNumber s x ≡ treeNumber c → inSet same (getD class (treeNumber c) 0) x ≡ true
+    in-class x h e =
+        let u = place-high x h in
+        let t = in-table (scriptOf s .types) x (place-low x h) (omega (arith, model-below (scriptOf s .typeRow) (scriptOf s .nameRow) (shaped-lower s (R .shaped)) k x h, table-high (scriptOf s .types) k K)) in
+        R .classes .members (treeNumber c) numbered x (omega arith) ∙ and-both (inTable (scriptOf s .types) x) (eqb (headNumber s x) (treeNumber c)) t (eq-eqb (headNumber s x) (treeNumber c) e)
+
+    class-number : (x : ℕ) → x < 576 → inSet same (getD class (treeNumber c) 0) x ≡ true → headNumber s x ≡ treeNumber c
+    class-number x l h = eqb-true (headNumber s x) (treeNumber c) (and-right (inTable (scriptOf s .types) x) _ (sym (R .classes .members (treeNumber c) numbered x l) ∙ h))
+
+    -- the trees at row r are this tree and the trees at its next
+    trees : treesAt s r ≡ cons tree (treesAt s (c .r))
+    trees = go r low high
+      where
+        go : (r : ℕ) → 1 ≤ r → r ≤ groveOf s .rows → treesAt s r ≡ cons (treeForm (groveOf s .byte) (groveOf s .row r) (treesAt s (groveOf s .row r .q))) (treesAt s (groveOf s .row r .r))
+        go zero p q = absurd (omega arith)
+        go (suc r) p q = forestAt-suc (groveOf s .byte) (groveOf s .row) r (low-rows s (R .shaped) (suc r) q)
+
+    abbrev Rest : Type 0
+    Rest = Admits (scriptOf s .typeRow) (scriptOf s .nameRow) (cons tree (treesAt s (c .r))) m (point m fresh a)
+
+    -- no place has the tree's head
+    missed-rest : 576 ≤ b → Rest → ⊥
+    unfolding Admits
+    missed-rest n (x, p, q, f, g) =
+        let h = point-has fresh a x p q in
+        let u = place-high x h in
+        let y = has-number x h (fits-head (groveOf s .byte) c r (treesAt s (c .q)) (scriptOf s .typeRow) (scriptOf s .nameRow) x sort f) in
+        not-both (and-both (inSet (cond fresh firsts t) a x) (inSet same (getD class (treeNumber c) 0) x) (point-set fresh a w x p (omega arith) ∙ q) (in-class x h y)) (L .none n numbered x p (omega arith))
+
+    pub missed : 576 ≤ b → GoesOn s r m (point m fresh a) → ⊥
+    missed n x = missed-rest n (rw trees at x)
+
+    -- a place is found: it is the only one that the tree can take
+    module _ (n : b < 576) where
+      found-low : 1 ≤ b
+      found-low = L .here n .1
+
+      at-point : point m fresh a b ≡ true
+      at-point = sym (point-set fresh a w b found-low n) ∙ and-left _ _ (L .here n .2)
+
+      pub found-has : has m b ≡ true
+      found-has = point-has fresh a b found-low at-point
+
+      found-number : headNumber s b ≡ treeNumber c
+      found-number = class-number b n (and-right (inSet (cond fresh firsts t) a b) (inSet same (getD class (treeNumber c) 0) b) (L .here n .2))
+
+      found-head : head b ≡ treeHead tree
+      found-head = has-head b found-has found-number
+
+      -- its children are of the place's content
+      abbrev Filled : Type 0
+      Filled = c .kind ≡ 4 → Inside s (c .q) (actingAt s b .q)
+
+      on-rest : Rest → Filled × GoesOn s (c .r) m (next m b)
+      unfolding Admits
+      on-rest (x, p, q, f, g) =
+          let h = fits-head (groveOf s .byte) c r (treesAt s (c .q)) (scriptOf s .typeRow) (scriptOf s .nameRow) x sort f in
+          let e : x ≡ b = point-single fresh a x b p found-low q at-point (h ∙ sym found-head) in
+          (rw e at (fits-inside (groveOf s .byte) c r (treesAt s (c .q)) (scriptOf s .typeRow) (scriptOf s .nameRow) x sort f), rw e at g)
+
+      pub taken-on : GoesOn s r m (point m fresh a) → Filled × GoesOn s (c .r) m (next m b)
+      taken-on x = on-rest (rw trees at x)
+
+      pub taken-back : Filled → GoesOn s (c .r) m (next m b) → GoesOn s r m (point m fresh a)
+      unfolding Admits
+      taken-back y g = rw trees (b, found-low, at-point, head-fits (groveOf s .byte) c r (treesAt s (c .q)) (scriptOf s .typeRow) (scriptOf s .nameRow) b sort found-head y, g)
+
+      pub found-content : c .kind ≡ 4 → (actingAt s b .kind ≡ 4) × (inTable (scriptOf s .types) (actingAt s b .q) ≡ true)
+      found-content e = let z = acts s (R .shaped) k b found-has in
+          content-row (scriptOf s .types) (actingAt s b) z (omega (arith, place-number (scriptOf s .types) s b z, found-number, node-row c r sort e .0))
+
+      pub found-child : c .kind ≡ 4 → c .q < r
+      found-child e = node-row c r sort e .1
+
+    pub next-lower : c .r < r
+    next-lower = tree-row s (R .shaped) r low high .next

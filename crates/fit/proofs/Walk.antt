@@ -1,0 +1,118 @@
+-- The walk over the trees at a row, place by place: what each place of the code holds, from one step's laws (Step).
+use Prim.Native.Nat.{ℕ, _≤_, _<_}
+use mathlib.Core.Path.{_≡_, refl, sym, _∙_, ap}
+use mathlib.Core.Bool.{Bool, true, false, not, cond, false≢true}
+use mathlib.Core.List.{List}
+use mathlib.Core.Logic.{_↔_}
+use native.Mathlib.Omega.{arith}
+use lib.Dec.{eqb}
+use lib.ListN.{getD}
+use Rattle.meaning.specs.Sheet.{Cells, groveOf}
+use Rattle.meaning.specs.Places.{Model, Admits}
+use Rattle.meaning.specs.Laws.Rows.{forestAt-zero}
+use Rattle.meaning.specs.Laws.Wired.{has}
+use Rattle.barren.specs.Rows.{few-types}
+use Rattle.bits.specs.Sets.{inSet}
+use Rattle.sheet.specs.Laid.{cellsOf}
+use Rattle.sheet.specs.declared.Layout.{Layout}
+use Rattle.sheet.specs.declared.Row.{Row}
+use Rattle.places.specs.Tables.{modelOf}
+use Rattle.ties.specs.Heads.{actingAt}
+use Rattle.fit.specs.Fitting.{treeNumber, Looked, point, GoesOn, Inside, Ready, Walks, Walking}
+use Rattle.fit.proofs.Step as step
+
+module _ {s : List ℕ} {l : Layout} {null firsts behind class same : List ℕ} (R : Ready s l null firsts behind class same) {r₀ k : ℕ} {t : List ℕ} (W : Walks s r₀ k t) where
+  pub begins : Walking s r₀ k r₀ true k
+  begins = record { low = omega arith; at-start = λ e. refl; at-place = λ e. absurd (false≢true (sym e)); on = λ x. x; back = λ x. x }
+
+  -- every class is a set of the table
+  pub few : (h : ℕ) → h < 1026 → getD class h 0 ≤ 512
+  few h l = omega (arith, R .classes .leader h l, few-types s (R .shaped))
+
+  module _ {r : ℕ} {fresh : Bool} {a : ℕ} (Y : Walking s r₀ k r fresh a) where
+    abbrev m : Model
+    m = modelOf s k
+
+    pub index : a ≤ 512
+    index = step.point-index R W fresh a (Y .at-start, Y .at-place)
+
+    -- no tree is left
+    none-left : r ≡ 0 → GoesOn s r m (point m fresh a) ↔ point m fresh a 0 ≡ true
+    unfolding Admits
+    none-left e = rw (e, forestAt-zero (groveOf s .byte) (groveOf s .row)) (λ x. x, λ x. x)
+
+    end-is : (x : Bool) → x ≡ cond fresh (eqb (getD null a 0) 1) (inSet t a 0) → x ≡ point m fresh a 0
+    end-is x e = e ∙ go fresh (Y .at-start) (Y .at-place)
+      where
+        go : (fresh : Bool) → (fresh ≡ true → a ≡ k) → (fresh ≡ false → has m a ≡ true) → cond fresh (eqb (getD null a 0) 1) (inSet t a 0) ≡ point m fresh a 0
+        go true p q = step.end-start R W a (p refl)
+        go false p q = W .nexts a (q refl) 0 (omega arith)
+
+    pub ended : r ≡ 0 → (x : Bool) → x ≡ cond fresh (eqb (getD null a 0) 1) (inSet t a 0) → x ≡ true ↔ Inside s r₀ k
+    ended z x e = let h = end-is x e in (λ y. Y .back (none-left z .1 (sym h ∙ y)), λ y. h ∙ none-left z .0 (Y .on y))
+
+    module _ (z : r ≡ 0 → ⊥) (c : Row) (C : cellsOf c ≡ groveOf s .row r) {h : ℕ} (H : h ≡ treeNumber (cellsOf c)) {b : ℕ} (L : Looked (cond fresh firsts t) a h class same b) where
+      here : Looked (cond fresh firsts t) a (treeNumber (groveOf s .row r)) class same b
+      here = rw (H ∙ ap treeNumber C) at L
+
+      -- no place has the tree's head
+      pub missed : 576 ≤ b → false ≡ true ↔ Inside s r₀ k
+      missed n = (λ e. absurd (false≢true e), λ x. absurd (step.missed R W Y z here n (Y .on x)))
+
+      kind-is : c .kind ≡ groveOf s .row r .kind
+      kind-is = ap (λ (x : Cells). x .kind) C
+
+      child-is : c .q ≡ groveOf s .row r .q
+      child-is = ap (λ (x : Cells). x .q) C
+
+      next-is : c .r ≡ groveOf s .row r .r
+      next-is = ap (λ (x : Cells). x .r) C
+
+      module _ (n : b < 576) where
+        -- the tree's children are of the place's content
+        abbrev Filled : Type 0
+        Filled = c .kind ≡ 4 → Inside s (c .q) (actingAt s b .q)
+
+        pub leaf : (c .kind ≡ 4 → ⊥) → Filled
+        leaf x e = absurd (x e)
+
+        pub next-lower : c .r < r
+        next-lower = omega (arith, next-is, step.next-lower R W Y z here)
+
+        pub goes-on : Filled → Walking s r₀ k (c .r) false b
+        goes-on f = record {
+          low = omega (arith, Y .low, next-lower);
+          at-start = λ e. absurd (false≢true e);
+          at-place = λ e. step.found-has R W Y z here n;
+          on = λ x. rw next-is (step.taken-on R W Y z here n (Y .on x) .1);
+          back = λ x. Y .back (step.taken-back R W Y z here n
+              (λ e. rw child-is at (f (kind-is ∙ e))) (rw next-is at x));
+        }
+
+        module _ (d : Row) (D : cellsOf d ≡ actingAt s b) (K : c .kind ≡ 4) where
+          content-is : d .q ≡ actingAt s b .q
+          content-is = ap (λ (x : Cells). x .q) D
+
+          pub child : c .q < r
+          child = omega (arith, child-is, step.found-child R W Y z here n (sym kind-is ∙ K))
+
+          pub walks : Walks s (c .q) (d .q) behind
+          walks = let x = step.found-content R W Y z here n (sym kind-is ∙ K) in record {
+            is-tree = omega (arith, child, Y .low, W .is-tree);
+            is-type = rw content-is (x .1);
+            nexts = rw content-is (R .contents b (x .0));
+          }
+
+          pub filled : (x : Bool) → x ≡ true ↔ Inside s (c .q) (d .q) → not x ≡ false → Filled
+          filled x i e y = rw content-is at (i .0 (held x e))
+            where
+              held : (x : Bool) → not x ≡ false → x ≡ true
+              held true e = refl
+              held false e = absurd (false≢true (sym e))
+
+          pub outside : (x : Bool) → x ≡ true ↔ Inside s (c .q) (d .q) → not x ≡ true → false ≡ true ↔ Inside s r₀ k
+          outside x i e = (λ y. absurd (false≢true y), λ y. fails x e (i .1 (rw (child-is, content-is) (step.taken-on R W Y z here n (Y .on y) .0 (sym kind-is ∙ K)))))
+            where
+              fails : (x : Bool) → not x ≡ true → x ≡ true → false ≡ true
+              fails true e h = e
+              fails false e h = h

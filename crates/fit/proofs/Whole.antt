@@ -1,0 +1,146 @@
+-- From the tables of the places to the walk's, and from the walk's answer to membership (Theorems/Places); then the answer of the whole question.
+use Prim.Native.Nat.{ℕ, _≤_, _<_}
+use mathlib.Core.Path.{_≡_, refl, sym, _∙_}
+use mathlib.Core.Bool.{Bool, true, false, _&&_, not, cond}
+use mathlib.Core.List.{List}
+use mathlib.Core.Logic.{inl, inr, _↔_, Iff·trans}
+use native.Mathlib.Omega.{arith}
+use lib.Dec.{eqb}
+use lib.ListN.{set, replicate, length-replicate}
+use borrow.Author.Tests.{eq-eqb, lt-ltb}
+use Rattle.meaning.specs.Tests.{inTable}
+use Rattle.meaning.specs.Sheet.{scriptOf, groveOf, types-of}
+use Rattle.meaning.specs.Forest.{forestOf}
+use Rattle.meaning.specs.Types.{Of, declared, namesIn}
+use Rattle.meaning.specs.Shape.{shapely}
+use Rattle.meaning.specs.Places.{Untied, is-declared}
+use Rattle.meaning.specs.Reply.{Answer, refused, done, shape, Loads, misshapen, sound, Fitted, no-row, unsound}
+use Rattle.meaning.specs.Laws.Bools.{or-right, and-both, either}
+use Rattle.meaning.specs.Laws.Tests.{in-table, table-low, table-high, some-at}
+use Rattle.meaning.specs.Laws.Wired.{wired-next, ends}
+use Rattle.meaning.specs.Theorems.Places.{places-say}
+use Rattle.barren.specs.Flags.{flag, flag-set}
+use Rattle.barren.specs.Rows.{kind-in, label-row, few-types}
+use Rattle.sheet.specs.Laid.{Laid, outside-low, outside-high}
+use Rattle.sheet.specs.declared.Layout.{Layout}
+use Rattle.places.specs.Users.{rooted-free, told-free}
+use Rattle.places.specs.Tables.{modelOf, setOf, isRoot, Tables, Wires, Rooted, Free}
+use Rattle.ties.specs.Classes.{Classes}
+use Rattle.ties.specs.Heads.{actingAt}
+use Rattle.fit.specs.Fitting.{Nexts, Inside, Ready, Walks}
+use Rattle.fit.proofs.Shaped.{root-row}
+
+root-is : {s : List ℕ} {l : Layout} → Laid s l → l .root ≡ groveOf s .root
+unfolding groveOf
+root-is laid = laid .root
+
+types-is : {s : List ℕ} {l : Layout} → Laid s l → l .types ≡ scriptOf s .types
+unfolding scriptOf
+types-is laid = laid .types
+
+module _ (s : List ℕ) (e : shapely s ≡ true) where
+  -- the sets of a table that is wired for a root are what may stand behind its places
+  nexts : {root t : List ℕ} {top : ℕ} → Wires s root t top → (r : ℕ) → 1 ≤ r → r ≤ top → flag root r ≡ true → Nexts t (modelOf s r)
+  nexts {t = t} w r p q f a h b l = rw (lt-ltb b 576 l) at (wired-next (setOf t) (modelOf s r) ends (w .wired r p q f) a h b)
+
+  content-asked : (i : ℕ) → scriptOf s .typeRow i .kind ≡ 4 → isRoot s (scriptOf s .typeRow i .q) ≡ true
+  content-asked i k =
+      let h = kind-in s i 3 k in
+      let q = scriptOf s .typeRow i .q in
+      or-right (is-declared (scriptOf s) q) (some-at (λ i. eqb (scriptOf s .typeRow i .kind) 4 && eqb (scriptOf s .typeRow i .q) q) (scriptOf s .types) i (table-low (scriptOf s .types) i h) (table-high (scriptOf s .types) i h)
+      (and-both (eqb (scriptOf s .typeRow i .kind) 4) (eqb q q) (eq-eqb (scriptOf s .typeRow i .kind) 4 k) (eq-eqb q q refl)))
+
+  -- the content of a row of kind 4: a root, and a row of the table
+  module _ {l : Layout} (laid : Laid s l) {root behind : List ℕ} (rooted : Rooted s root) (wires : Wires s root behind (l .types)) where
+    content-nexts : (i : ℕ) → scriptOf s .typeRow i .kind ≡ 4 → Nexts behind (modelOf s (scriptOf s .typeRow i .q))
+    content-nexts i k =
+        let h = kind-in s i 3 k in
+        let x = label-row s e i h k .1 in
+        let q = scriptOf s .typeRow i .q in
+        let u : q < 513 = omega (arith, x .lower, table-high (scriptOf s .types) i h, few-types s e) in
+        nexts wires q (x .low) (omega (arith, x .lower, table-high (scriptOf s .types) i h, types-is laid)) (rooted .at q u ∙ content-asked i k)
+
+    contents : (a : ℕ) → actingAt s a .kind ≡ 4 → Nexts behind (modelOf s (actingAt s a .q))
+    contents a = go (eqb (scriptOf s .typeRow a .kind) 8)
+      where
+        go : (t : Bool) → cond t (scriptOf s .typeRow (scriptOf s .nameRow (scriptOf s .typeRow a .p))) (scriptOf s .typeRow a) .kind ≡ 4
+            → Nexts behind (modelOf s (cond t (scriptOf s .typeRow (scriptOf s .nameRow (scriptOf s .typeRow a .p))) (scriptOf s .typeRow a) .q))
+        go true k = content-nexts (scriptOf s .nameRow (scriptOf s .typeRow a .p)) k
+        go false k = content-nexts a k
+
+    pub ready : {null begin class same : List ℕ} → Untied (scriptOf s) → Tables s null begin → Classes s class same → Ready s l null begin behind class same
+    ready untied tables classes = record {
+      laid = laid;
+      shaped = e;
+      untied = untied;
+      tables = tables;
+      contents = contents;
+      classes = classes;
+    }
+
+  -- no side of a row is a root
+  pub roots-free : {l : Layout} {root : List ℕ} → Laid s l → Rooted s root → Free s root (l .types)
+  roots-free laid rooted i j p q x = rooted-free s e rooted i j p (omega (arith, types-is laid)) x
+
+  -- the told row alone: no side of a lower row is it
+  module _ (told : ℕ) (t : inTable (scriptOf s .types) told ≡ true) where
+    pub told-index : told < 513
+    told-index = omega (arith, table-high (scriptOf s .types) told t, few-types s e)
+
+    told-flag : flag (set (replicate 513 0) told 1) told ≡ true
+    told-flag = flag-set (replicate 513 0) told 1 (rw (length-replicate {A = ℕ} 513 0) told-index)
+
+    pub told-low : {l : Layout} → Laid s l → told ≤ l .types
+    told-low laid = omega (arith, table-high (scriptOf s .types) told t, types-is laid)
+
+    pub told-alone : Free s (set (replicate 513 0) told 1) told
+    told-alone = told-free s e told (table-high (scriptOf s .types) told t)
+
+    pub told-walks : {l : Layout} {next : List ℕ} → Laid s l → Wires s (set (replicate 513 0) told 1) next told → Walks s (l .root) told next
+    told-walks laid w = record {
+      is-tree = omega (arith, root-row s e, root-is laid);
+      is-type = t;
+      nexts = nexts w told (table-low (scriptOf s .types) told t) (omega arith) told-flag;
+    }
+
+    pub of-type : {l : Layout} (b : Bool) → Laid s l → b ≡ true ↔ Inside s (l .root) told → b ≡ true ↔ Of (namesIn (scriptOf s)) (declared (scriptOf s) told) (forestOf (groveOf s))
+    of-type b laid x = Iff·trans (rw (root-is laid) at x) (places-say s e told (forestOf (groveOf s)))
+
+-- ---- the answer
+
+pub is-shaped : (s : List ℕ) (b : Bool) → b ≡ shapely s → not b ≡ false → shapely s ≡ true
+is-shaped s b x y = sym x ∙ go b y
+  where
+    go : (b : Bool) → not b ≡ false → b ≡ true
+    go true y = refl
+    go false y = sym y
+
+pub untied-of : {s : List ℕ} → Loads s done → Untied (scriptOf s)
+untied-of (sound e b u) = u
+
+-- an answer by another name
+pub loads-as : {s : List ℕ} {a b : Answer} → a ≡ b → Loads s a → Loads s b
+loads-as e x = rw e at x
+
+module _ (s : List ℕ) (told : ℕ) where
+  pub not-shaped : (b : Bool) → b ≡ shapely s → not b ≡ true → Fitted s told (refused shape)
+  not-shaped b x y = elim (either (inTable (scriptOf s .types) told)) [
+    | inl t ↦ unsound t (misshapen (sym x ∙ go b y))
+    | inr t ↦ no-row t
+  ]
+    where
+      go : (b : Bool) → not b ≡ true → b ≡ false
+      go true y = sym y
+      go false y = refl
+
+  pub no-told : told ≡ 0 → Fitted s told (refused shape)
+  no-told e = no-row (outside-low (scriptOf s .types) told e)
+
+  module _ {l : Layout} (laid : Laid s l) where
+    pub past-told : l .types < told → Fitted s told (refused shape)
+    unfolding scriptOf
+    past-told h = no-row (outside-high (types-of s) told (omega (arith, laid .types)))
+
+    pub is-told : (told ≡ 0 → ⊥) → told ≤ l .types → inTable (scriptOf s .types) told ≡ true
+    unfolding scriptOf
+    is-told z h = in-table (types-of s) told (omega arith) (omega (arith, laid .types))

@@ -1,0 +1,71 @@
+-- What the walk over a forest says: whether the trees at a row are of the model at a row, and what it asks of the tables that it goes by.
+use Prim.Native.Nat.{ℕ, _≤_, _<_}
+use mathlib.Core.Path.{_≡_}
+use mathlib.Core.Bool.{Bool, true, false}
+use mathlib.Core.List.{List, [], _∷_}
+use lib.ListN.{getD}
+use Rattle.meaning.specs.Tests.{inTable}
+use Rattle.meaning.specs.Sheet.{Cells, scriptOf, groveOf}
+use Rattle.meaning.specs.Forest.{Forest, forestAt}
+use Rattle.meaning.specs.Shape.{shapely}
+use Rattle.meaning.specs.Places.{Model, Set, start, next, Admits, Untied}
+use Rattle.meaning.specs.Laws.Wired.{has}
+use Rattle.bits.specs.Sets.{inSet, inBoth}
+use Rattle.places.specs.Tables.{modelOf, Tables}
+use Rattle.ties.specs.Heads.{actingAt}
+use Rattle.ties.specs.Classes.{Classes}
+use Rattle.sheet.specs.Laid.{Laid}
+use Rattle.sheet.specs.declared.Layout.{Layout}
+
+-- a tree's head by number, as places have theirs (`headNumber`): its label, 1024 a text, 1025 a bool; 1026 is no head
+abbrev pub treeNumber : Cells → ℕ
+treeNumber c = getD (1026 ∷ 1024 ∷ 1025 ∷ 1025 ∷ c .p ∷ []) (c .kind) 1026
+
+-- a place of set k of the table t that is in the class of head h; 576 where there is none
+pub record Looked (t : List ℕ) (k h : ℕ) (class same : List ℕ) (r : ℕ) : Type 0 where
+  pub here : r < 576 → (h < 1026) × (1 ≤ r) × (inBoth t k same (getD class h 0) r ≡ true)
+  pub none : 576 ≤ r → h < 1026 → (x : ℕ) → 1 ≤ x → x < 576 → inBoth t k same (getD class h 0) x ≡ false
+
+-- the sets of t are what may stand behind the places of m
+abbrev pub Nexts : List ℕ → Model → Type 0
+Nexts t m = (a : ℕ) → has m a ≡ true → (b : ℕ) → b < 576 → inSet t a b ≡ next m a b
+
+-- which places may stand at a point of m: at its start, or behind its place a
+abbrev pub point : Model → Bool → ℕ → Set
+point m true a = start m
+point m false a = next m a
+
+module _ (s : List ℕ) where
+  abbrev pub treesAt : ℕ → Forest
+  treesAt r = forestAt (groveOf s .byte) (groveOf s .row) r
+
+  -- the trees at row r go on from a point of the model m
+  abbrev pub GoesOn : ℕ → Model → Set → Type 0
+  GoesOn r m p = Admits (scriptOf s .typeRow) (scriptOf s .nameRow) (treesAt r) m p
+
+  -- the trees at row r are of the model at row k
+  abbrev pub Inside : ℕ → ℕ → Type 0
+  Inside r k = GoesOn r (modelOf s k) (start (modelOf s k))
+
+  -- the tables of a shaped sheet without ties
+  pub record Ready (l : Layout) (null first-sets behind class same : List ℕ) : Type 0 where
+    pub laid : Laid s l
+    pub shaped : shapely s ≡ true
+    pub untied : Untied (scriptOf s)
+    pub tables : Tables s null first-sets
+    pub contents : (a : ℕ) → actingAt s a .kind ≡ 4 → Nexts behind (modelOf s (actingAt s a .q))
+    pub classes : Classes s class same
+
+  -- what a walk over the trees at row r asks: rows of the tables, and the sets of the model at row k
+  pub record Walks (r k : ℕ) (next-sets : List ℕ) : Type 0 where
+    pub is-tree : r ≤ groveOf s .rows
+    pub is-type : inTable (scriptOf s .types) k ≡ true
+    pub nexts : Nexts next-sets (modelOf s k)
+
+  -- a walk that began at row r₀ in the model at row k stands at row r, at the model's start or behind its place a
+  pub record Walking (r₀ k r : ℕ) (fresh : Bool) (a : ℕ) : Type 0 where
+    pub low : r ≤ r₀
+    pub at-start : fresh ≡ true → a ≡ k
+    pub at-place : fresh ≡ false → has (modelOf s k) a ≡ true
+    pub on : Inside r₀ k → GoesOn r (modelOf s k) (point (modelOf s k) fresh a)
+    pub back : GoesOn r (modelOf s k) (point (modelOf s k) fresh a) → Inside r₀ k

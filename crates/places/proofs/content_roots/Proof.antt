@@ -1,0 +1,60 @@
+-- `places::content_roots` meets its contract. The loop's invariant: the contents of the first i rows are flagged.
+use Prim.Native.Nat.{_≤_, _-_}
+use mathlib.Core.Path.{_∙_}
+use native.Mathlib.Omega.{arith}
+use borrow.Author.Needs.{needs}
+use Rattle.meaning.specs.Tests.{some}
+use Rattle.places.specs.Roots.{Marked, held-root, some-none, some-more, some-all}
+use Rattle.places.proofs.content_roots.Statement.{statement}
+use Rattle.places.proofs.content_roots.Tie as tie
+use Rattle.places.proofs.content_roots.Reads as reads
+use Rattle.places.proofs.content_roots.Lts as lts
+use Rattle.places.proofs.content.Reads as content-reads
+
+abbrev Inv-loop : tie.InvT-loop
+Inv-loop s l root₀ i₀ root i = (i ≤ l .types) × Marked root₀ root (λ y. some (held-root s y) i)
+
+abbrev μ-loop : tie.MeasureT-loop
+μ-loop s l root₀ i₀ root i = l .types - i
+
+-- src/lib.rt:230:5
+loop-holds : tie.Need-loop-holds Inv-loop μ-loop
+loop-holds c = (omega arith, some-none (c .before .args .root .now) (held-root (c .before .args .s .now)))
+
+-- src/lib.rt:231:23
+add-content : tie.Need-add-content Inv-loop μ-loop
+add-content c = omega (arith, c .before .before .loop .inv .0, c .before .before .before .before .pre .0 .few-types)
+
+-- src/lib.rt:231:9
+content-requires : tie.Need-content-requires Inv-loop μ-loop
+content-requires c κs = (c .before .before .before .before .before .pre .0, c .before .before .before .loop .inv .1 .size ∙ c .before .before .before .before .before .pre .1)
+
+-- src/lib.rt:232:9
+add-i : tie.Need-add-i Inv-loop μ-loop
+add-i c = omega (arith, c .before .before .before .before .loop .inv .0, c .before .before .before .before .before .before .pre .0 .few-types)
+
+-- src/lib.rt:230:5
+loop-less : tie.Need-loop-less Inv-loop μ-loop
+loop-less c = search needs
+
+-- src/lib.rt:230:5
+loop-again : tie.Need-loop-again Inv-loop μ-loop
+loop-again c = (omega arith, some-more (held-root (c .before .before .before .before .before .before .args .s .now)) (c .before .before .before .before .loop .i) (c .before .before .before .before .loop .inv .1) (c .content .ensures))
+
+-- src/lib.rt:224:1
+returns : tie.Need-returns Inv-loop μ-loop
+returns c = some-all (held-root (c .before .before .before .before .args .s .now)) (omega (arith, c .before .before .loop .inv .0, c .if1 .left)) (c .before .before .loop .inv .1)
+
+pub content-roots-spec : {M : Type 1} → statement M
+content-roots-spec =
+    tie.close
+    (tie.spec
+    Inv-loop
+    μ-loop
+    loop-holds
+    add-content
+    content-requires
+    add-i
+    loop-less
+    loop-again
+    returns)

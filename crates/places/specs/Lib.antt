@@ -1,0 +1,5 @@
+pub mod Tables
+pub mod Firsts
+pub mod Behind
+pub mod Roots
+pub mod Users

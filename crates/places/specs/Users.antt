@@ -1,0 +1,280 @@
+-- Each type row of a shaped sheet has one user: a side of a row is neither a declared type nor a content, and from every row the users lead up to one that is. What a model has is a place.
+use Prim.Native.Nat.{ℕ, zero, suc, _+_, _≤_, _<_}
+use mathlib.Core.Path.{_≡_, refl, _∙_}
+use mathlib.Core.Bool.{true, false, _&&_, _||_, false≢true}
+use mathlib.Core.List.{List}
+use mathlib.Core.Logic.{_⊎_, inl, inr}
+use native.Mathlib.Decide.{decLe, decLt}
+use native.Mathlib.Omega.{arith}
+use lib.Dec.{eqb}
+use lib.ListN.{set, replicate}
+use borrow.Author.Tests.{eqb-true, eq-eqb}
+use Rattle.meaning.specs.Tests.{some, total, inTable}
+use Rattle.meaning.specs.Sheet.{Cells, Procedure, scriptOf, sheetOf}
+use Rattle.meaning.specs.Kinds.{TypeRow, typeForm}
+use Rattle.meaning.specs.Shape.{shapely, users-ok, typeUses, hit, hits, own, type-users, procedure-hits}
+use Rattle.meaning.specs.Places.{modelForm, model, modelAt, is-declared, is-content}
+use Rattle.meaning.specs.Laws.Bools.{or-left, or-right, or-cases, and-left, and-right, either}
+use Rattle.meaning.specs.Laws.Tests.{in-table, table-low, table-high, every-at, some-at, some-of, total-at, total-two}
+use Rattle.meaning.specs.Laws.Wired.{has}
+use Rattle.meaning.specs.Laws.Apart.{Side, View, v-none, v-empty, v-text, v-bool, v-label, v-seq, v-choice, v-star, v-name, view}
+use Rattle.barren.specs.Flags.{flag-kept, unset}
+use Rattle.barren.specs.Rows.{Part, few-types}
+use Rattle.places.specs.Tables.{modelOf, formAt, isRoot, Free, Rooted}
+use Rattle.places.specs.Firsts.{PlaceKind, model-row}
+use Rattle.places.specs.Behind.{side-part}
+
+-- ---- sums
+
+total-some : (f : ℕ → ℕ) (n : ℕ) → 1 ≤ total f n → (r : ℕ) × (1 ≤ r) × (r ≤ n) × (1 ≤ f r)
+unfolding total
+total-some f zero h = absurd (omega arith)
+total-some f (suc n) h = elim (decLe 1 (f (suc n))) [
+  | yes l ↦ (suc n, omega arith, omega arith, l)
+  | no l ↦ (let x = total-some f n (omega arith) in (x .0, x .1, omega (arith, x .2), x .3))
+]
+
+-- two rows of a sum, in either order
+total-both : (f : ℕ → ℕ) (n r k : ℕ) → inTable n r ≡ true → inTable n k ≡ true → (r ≡ k → ⊥) → f r + f k ≤ total f n
+total-both f n r k p q d = elim (decLt r k) [
+  | yes l ↦ total-two f n r k (table-low n r p) l (table-high n k q)
+  | no l ↦ (let x = total-two f n k r (table-low n k q) (omega arith) (table-high n r p) in omega arith)
+]
+
+-- ---- the words of a row that are row j
+
+abbrev type-hits : ℕ → Cells → ℕ
+type-hits j c = hits own j (typeUses c) c
+
+hit-one : (p j : ℕ) → p ≡ j → hit j p ≡ 1
+hit-one p j e = rw (eq-eqb p j e)
+
+one-hit : (p j : ℕ) → 1 ≤ hit j p → p ≡ j
+one-hit p j h = elim (either (eqb p j)) [ inl e ↦ eqb-true p j e | inr e ↦ (let z = rw e at h in absurd (omega arith)) ]
+
+side-hit : (c : Cells) (t : TypeRow) → View c t → (j : ℕ) → Side t j → 1 ≤ type-hits j c
+unfolding Side own
+side-hit c t (v-seq e) j (inl h) = rw e (omega (arith, hit-one (c .p) j h))
+side-hit c t (v-seq e) j (inr h) = rw e (omega (arith, hit-one (c .q) j h))
+side-hit c t (v-choice e) j (inl h) = rw e (omega (arith, hit-one (c .p) j h))
+side-hit c t (v-choice e) j (inr h) = rw e (omega (arith, hit-one (c .q) j h))
+side-hit c t (v-star e) j h = rw e (omega (arith, hit-one (c .p) j h))
+
+held-hit : (c : Cells) (j : ℕ) → c .kind ≡ 4 → c .q ≡ j → 1 ≤ type-hits j c
+unfolding own
+held-hit c j k h = rw k (omega (arith, hit-one (c .q) j h))
+
+abbrev cells : ℕ → ℕ → ℕ → ℕ → Cells
+cells k p q r = record { kind = k; p = p; q = q; r = r }
+
+either-hit : (p q j : ℕ) → 1 ≤ hit j p + hit j q + 0 → (p ≡ j) ⊎ (q ≡ j)
+either-hit p q j h = elim (decLe 1 (hit j p)) [ yes l ↦ inl (one-hit p j l) | no l ↦ inr (one-hit q j (omega arith)) ]
+
+hit-row : (k p q r j : ℕ) → 1 ≤ type-hits j (cells k p q r) → Side (typeForm (cells k p q r)) j ⊎ ((k ≡ 4) × (q ≡ j))
+unfolding Side own
+hit-row zero p q r j h = absurd (omega arith)
+hit-row (suc zero) p q r j h = absurd (omega arith)
+hit-row (suc (suc zero)) p q r j h = absurd (omega arith)
+hit-row (suc (suc (suc zero))) p q r j h = absurd (omega arith)
+hit-row (suc (suc (suc (suc zero)))) p q r j h = inr (refl, one-hit q j (omega arith))
+hit-row (suc (suc (suc (suc (suc zero))))) p q r j h = inl (either-hit p q j h)
+hit-row (suc (suc (suc (suc (suc (suc zero)))))) p q r j h = inl (either-hit p q j h)
+hit-row (suc (suc (suc (suc (suc (suc (suc zero))))))) p q r j h = inl (one-hit p j (omega arith))
+hit-row (suc (suc (suc (suc (suc (suc (suc (suc zero)))))))) p q r j h = absurd (omega arith)
+hit-row (suc (suc (suc (suc (suc (suc (suc (suc (suc k))))))))) p q r j h = absurd (omega arith)
+
+module _ (s : List ℕ) (e : shapely s ≡ true) where
+  users-good : users-ok (sheetOf s) ≡ true
+  users-good = search (and-left, and-right) depth 14
+
+  -- how often row j is named by what is no type row
+  abbrev outer : ℕ → ℕ
+  outer j = total (λ x. hit j (scriptOf s .nameRow x)) (scriptOf s .names) + total (λ c. procedure-hits (sheetOf s) j (scriptOf s .procedureRow c)) (scriptOf s .procedures) + hit j (scriptOf s .a) + hit j (scriptOf s .b)
+
+  abbrev inner : ℕ → ℕ
+  inner j = total (λ i. type-hits j (scriptOf s .typeRow i)) (scriptOf s .types)
+
+  one-user : (j : ℕ) → inTable (scriptOf s .types) j ≡ true → inner j + outer j ≡ 1
+  unfolding users-ok type-users sheetOf
+  one-user j h = omega (arith, eqb-true (type-users (sheetOf s) j) 1 (every-at _ (scriptOf s .types) (and-left _ _ (and-left _ _ (and-left _ _ users-good))) j (table-low (scriptOf s .types) j h) (table-high (scriptOf s .types) j h)))
+
+  declared-hit : (j : ℕ) → is-declared (scriptOf s) j ≡ true → 1 ≤ outer j
+  declared-hit j d = elim (or-cases (eqb (scriptOf s .a) j || eqb (scriptOf s .b) j || some (λ x. eqb (scriptOf s .nameRow x) j) (scriptOf s .names)) _ d) [
+    | inl d ↦ elim (or-cases (eqb (scriptOf s .a) j || eqb (scriptOf s .b) j) _ d) [
+      | inl d ↦ elim (or-cases (eqb (scriptOf s .a) j) _ d) [
+        | inl d ↦ omega (arith, hit-one (scriptOf s .a) j (eqb-true _ j d))
+        | inr d ↦ omega (arith, hit-one (scriptOf s .b) j (eqb-true _ j d))
+      ]
+      | inr d ↦ (let x = some-of (λ x. eqb (scriptOf s .nameRow x) j) (scriptOf s .names) d in
+          omega (arith, hit-one (scriptOf s .nameRow (x .0)) j (eqb-true _ j (x .3)), total-at (λ x. hit j (scriptOf s .nameRow x)) (scriptOf s .names) (x .0) (x .1) (x .2)))
+    ]
+    | inr d ↦ (let x = some-of (λ c. eqb (scriptOf s .procedureRow c .first) j || eqb (scriptOf s .procedureRow c .second) j || eqb (scriptOf s .procedureRow c .input) j || eqb (scriptOf s .procedureRow c .output) j) (scriptOf s .procedures) d in
+        omega (arith, signed (scriptOf s .procedureRow (x .0)) (x .3), total-at (λ c. procedure-hits (sheetOf s) j (scriptOf s .procedureRow c)) (scriptOf s .procedures) (x .0) (x .1) (x .2)))
+  ]
+    where
+      signed : (c : Procedure) → eqb (c .first) j || eqb (c .second) j || eqb (c .input) j || eqb (c .output) j ≡ true → 1 ≤ procedure-hits (sheetOf s) j c
+      signed c d = elim (or-cases (eqb (c .first) j || eqb (c .second) j || eqb (c .input) j) _ d) [
+        | inl d ↦ elim (or-cases (eqb (c .first) j || eqb (c .second) j) _ d) [
+          | inl d ↦ elim (or-cases (eqb (c .first) j) _ d) [
+            | inl d ↦ omega (arith, hit-one (c .first) j (eqb-true _ j d))
+            | inr d ↦ omega (arith, hit-one (c .second) j (eqb-true _ j d))
+          ]
+          | inr d ↦ omega (arith, hit-one (c .input) j (eqb-true _ j d))
+        ]
+        | inr d ↦ omega (arith, hit-one (c .output) j (eqb-true _ j d))
+      ]
+
+  -- a side of a row is no root
+  pub side-free : (i j : ℕ) → inTable (scriptOf s .types) i ≡ true → Side (formAt s i) j → isRoot s j ≡ false
+  unfolding Side
+  side-free i j h x = elim (either (isRoot s j)) [
+    | inl d ↦ absurd (elim (or-cases (is-declared (scriptOf s) j) (is-content (scriptOf s) j) d) [
+      | inl d ↦ omega (arith, one, declared-hit j d, here, total-at (λ i. type-hits j (scriptOf s .typeRow i)) (scriptOf s .types) i (table-low (scriptOf s .types) i h) (table-high (scriptOf s .types) i h))
+      | inr d ↦ held (some-of (λ i. eqb (scriptOf s .typeRow i .kind) 4 && eqb (scriptOf s .typeRow i .q) j) (scriptOf s .types) d)
+    ])
+    | inr d ↦ d
+  ]
+    where
+      part : Part i j
+      part = side-part s e i j h x
+
+      one : inner j + outer j ≡ 1
+      one = one-user j (in-table (scriptOf s .types) j (part .low) (omega (arith, part .lower, table-high (scriptOf s .types) i h)))
+
+      here : 1 ≤ type-hits j (scriptOf s .typeRow i)
+      here = side-hit (scriptOf s .typeRow i) _ (view (scriptOf s .typeRow i)) j x
+
+      no-side : (k : ℕ) → scriptOf s .typeRow k .kind ≡ 4 → Side (formAt s k) j → ⊥
+      no-side k z y = let w : ⊥ = rw z at y in w
+
+      held : (k : ℕ) × (1 ≤ k) × (k ≤ scriptOf s .types) × (eqb (scriptOf s .typeRow k .kind) 4 && eqb (scriptOf s .typeRow k .q) j ≡ true) → ⊥
+      held (k, p, q, d) =
+          let z = eqb-true (scriptOf s .typeRow k .kind) 4 (and-left _ _ d) in
+          let w = eqb-true (scriptOf s .typeRow k .q) j (and-right (eqb (scriptOf s .typeRow k .kind) 4) _ d) in
+          omega (
+            arith,
+            one,
+            here,
+            held-hit (scriptOf s .typeRow k) j z w,
+            total-both (λ i. type-hits j (scriptOf s .typeRow i)) (scriptOf s .types) i k h (in-table (scriptOf s .types) k p q) (λ y. no-side k z (rw y at x)),
+          )
+
+  pub rooted-free : {root : List ℕ} → Rooted s root → Free s root (scriptOf s .types)
+  rooted-free r i j p q x =
+      let h = in-table (scriptOf s .types) i p q in
+      r .at j (omega (arith, side-part s e i j h x .lower, few-types s e)) ∙ side-free i j h x
+
+  -- one row flagged, and only the rows up to it looked at
+  pub told-free : (told : ℕ) → told ≤ scriptOf s .types → Free s (set (replicate 513 0) told 1) told
+  told-free told l i j p q x = flag-kept (replicate 513 0) told 1 j (λ z. omega (arith, side-part s e i j (in-table (scriptOf s .types) i p (omega arith)) x .lower)) ∙ unset 513 j
+
+  -- ---- from each row up to a root
+
+  declared-by : (j : ℕ) → 1 ≤ outer j → is-declared (scriptOf s) j ≡ true
+  declared-by j h = elim (decLe 1 (hit j (scriptOf s .a))) [
+    | yes l ↦ or-left _ (or-left _ (or-left _ (eq-eqb (scriptOf s .a) j (one-hit (scriptOf s .a) j l))))
+    | no l1 ↦ elim (decLe 1 (hit j (scriptOf s .b))) [
+      | yes l ↦ or-left _ (or-left _ (or-right (eqb (scriptOf s .a) j) (eq-eqb (scriptOf s .b) j (one-hit (scriptOf s .b) j l))))
+      | no l2 ↦ elim (decLe 1 (total (λ x. hit j (scriptOf s .nameRow x)) (scriptOf s .names))) [
+        | yes l ↦ (let x = total-some (λ x. hit j (scriptOf s .nameRow x)) (scriptOf s .names) l in
+            or-left _ (or-right (eqb (scriptOf s .a) j || eqb (scriptOf s .b) j) (some-at (λ x. eqb (scriptOf s .nameRow x) j) (scriptOf s .names) (x .0) (x .1) (x .2) (eq-eqb (scriptOf s .nameRow (x .0)) j (one-hit (scriptOf s .nameRow (x .0)) j (x .3))))))
+        | no l3 ↦ (let x = total-some (λ c. procedure-hits (sheetOf s) j (scriptOf s .procedureRow c)) (scriptOf s .procedures) (omega arith) in
+            or-right (eqb (scriptOf s .a) j || eqb (scriptOf s .b) j || some (λ x. eqb (scriptOf s .nameRow x) j) (scriptOf s .names))
+            (some-at (λ c. eqb (scriptOf s .procedureRow c .first) j || eqb (scriptOf s .procedureRow c .second) j || eqb (scriptOf s .procedureRow c .input) j || eqb (scriptOf s .procedureRow c .output) j) (scriptOf s .procedures) (x .0) (x .1) (x .2) (signs (scriptOf s .procedureRow (x .0)) (x .3))))
+      ]
+    ]
+  ]
+    where
+      signs : (c : Procedure) → 1 ≤ procedure-hits (sheetOf s) j c → eqb (c .first) j || eqb (c .second) j || eqb (c .input) j || eqb (c .output) j ≡ true
+      signs c h = elim (decLe 1 (hit j (c .first))) [
+        | yes l ↦ or-left _ (or-left _ (or-left _ (eq-eqb (c .first) j (one-hit (c .first) j l))))
+        | no l4 ↦ elim (decLe 1 (hit j (c .second))) [
+          | yes l ↦ or-left _ (or-left _ (or-right (eqb (c .first) j) (eq-eqb (c .second) j (one-hit (c .second) j l))))
+          | no l5 ↦ elim (decLe 1 (hit j (c .input))) [
+            | yes l ↦ or-left _ (or-right (eqb (c .first) j || eqb (c .second) j) (eq-eqb (c .input) j (one-hit (c .input) j l)))
+            | no l6 ↦ or-right (eqb (c .first) j || eqb (c .second) j || eqb (c .input) j) (eq-eqb (c .output) j (one-hit (c .output) j (omega arith)))
+          ]
+        ]
+      ]
+
+  -- a row is a root, or a side of a row
+  user-of : (j : ℕ) → inTable (scriptOf s .types) j ≡ true → (isRoot s j ≡ true) ⊎ ((i : ℕ) × (inTable (scriptOf s .types) i ≡ true) × Side (formAt s i) j)
+  user-of j h = elim (decLe 1 (inner j)) [
+    | yes l ↦ (let x = total-some (λ i. type-hits j (scriptOf s .typeRow i)) (scriptOf s .types) l in by (x .0) (x .1) (x .2) (hit-row _ _ _ _ j (x .3)))
+    | no l ↦ inl (or-left _ (declared-by j (omega (arith, one-user j h))))
+  ]
+    where
+      by : (i : ℕ) → 1 ≤ i → i ≤ scriptOf s .types → Side (formAt s i) j ⊎ ((scriptOf s .typeRow i .kind ≡ 4) × (scriptOf s .typeRow i .q ≡ j)) → (isRoot s j ≡ true) ⊎ ((i : ℕ) × (inTable (scriptOf s .types) i ≡ true) × Side (formAt s i) j)
+      by i p q (inl x) = inr (i, in-table (scriptOf s .types) i p q, x)
+      by i p q (inr (k, z)) = inl (or-right (is-declared (scriptOf s) j) (some-at (λ i. eqb (scriptOf s .typeRow i .kind) 4 && eqb (scriptOf s .typeRow i .q) j) (scriptOf s .types) i p q (rw (eq-eqb (scriptOf s .typeRow i .kind) 4 k) (eq-eqb (scriptOf s .typeRow i .q) j z))))
+
+  -- what a side has, the row has
+  side-has : (i j a : ℕ) → Side (formAt s i) j → has (modelOf s j) a ≡ true → has (modelOf s i) a ≡ true
+  unfolding Side has modelForm
+  side-has i j a x y = rw (model-row s e i) (go (formAt s i) x)
+    where
+      at-side : {p : ℕ} → p ≡ j → has (modelOf s p) a ≡ true
+      at-side z = rw z y
+
+      go : (t : TypeRow) → Side t j → has (modelForm t i (modelOf s)) a ≡ true
+      go (TypeRow.seq p q) (inl z) = or-left (has (modelOf s q) a) (at-side z)
+      go (TypeRow.seq p q) (inr z) = or-right (has (modelOf s p) a) (at-side z)
+      go (TypeRow.choice p q) (inl z) = or-left (has (modelOf s q) a) (at-side z)
+      go (TypeRow.choice p q) (inr z) = or-right (has (modelOf s p) a) (at-side z)
+      go (TypeRow.star p) z = at-side z
+
+  -- a root whose model has what the model of row j has
+  pub record Above (j : ℕ) : Type 0 where
+    pub root : ℕ
+    pub in-types : inTable (scriptOf s .types) root ≡ true
+    pub is-root : isRoot s root ≡ true
+    pub keeps : (a : ℕ) → has (modelOf s j) a ≡ true → has (modelOf s root) a ≡ true
+
+  up : (i j : ℕ) → Side (formAt s i) j → Above i → Above j
+  up i j x r = record { root = r .root; in-types = r .in-types; is-root = r .is-root; keeps = λ a y. r .keeps a (side-has i j a x y) }
+
+  climb : (j : ℕ) → inTable (scriptOf s .types) j ≡ true → ((i : ℕ) → inTable (scriptOf s .types) i ≡ true → j < i → Above i) → Above j
+  climb j h again = elim (user-of j h) [
+    | inl r ↦ record { root = j; in-types = h; is-root = r; keeps = λ a y. y }
+    | inr x ↦ up (x .0) j (x .2) (again (x .0) (x .1) (side-part s e (x .0) j (x .1) (x .2) .lower))
+  ]
+
+  pub above : (n j : ℕ) → inTable (scriptOf s .types) j ≡ true → scriptOf s .types ≤ n + j → Above j
+  above zero j h l = climb j h (λ i q d. absurd (omega (arith, table-high (scriptOf s .types) i q)))
+  above (suc n) j h l = climb j h (λ i q d. above n i q (omega arith))
+
+  -- ---- what a model has is a place
+
+  place-in : (k r a : ℕ) → has (model (formAt s) k r) a ≡ true → PlaceKind (scriptOf s .typeRow a .kind)
+  unfolding has model modelForm
+  place-in zero r a y = absurd (false≢true y)
+  place-in (suc k) r a y = go (view (scriptOf s .typeRow r)) (λ j. place-in k j a) y
+    where
+      at : PlaceKind (scriptOf s .typeRow r .kind) → eqb r a ≡ true → PlaceKind (scriptOf s .typeRow a .kind)
+      at p z = rw (eqb-true r a z) at p
+
+      go : {t : TypeRow} → View (scriptOf s .typeRow r) t → ((j : ℕ) → has (model (formAt s) k j) a ≡ true → PlaceKind (scriptOf s .typeRow a .kind)) → has (modelForm t r (model (formAt s) k)) a ≡ true → PlaceKind (scriptOf s .typeRow a .kind)
+      go v-none again y = absurd (false≢true y)
+      go v-empty again y = absurd (false≢true y)
+      go (v-text c) again y = at (inl c) y
+      go (v-bool c) again y = at (inr (inl c)) y
+      go (v-label c) again y = at (inr (inr (inl c))) y
+      go (v-seq c) again y = elim (or-cases (has (model (formAt s) k _) a) (has (model (formAt s) k _) a) y) [ inl z ↦ again _ z | inr z ↦ again _ z ]
+      go (v-choice c) again y = elim (or-cases (has (model (formAt s) k _) a) (has (model (formAt s) k _) a) y) [ inl z ↦ again _ z | inr z ↦ again _ z ]
+      go (v-star c) again y = again _ y
+      go (v-name c) again y = at (inr (inr (inr c))) y
+
+  pub has-place : (r a : ℕ) → has (modelOf s r) a ≡ true → PlaceKind (scriptOf s .typeRow a .kind)
+  unfolding modelAt
+  has-place r a y = place-in r r a y
+
+  -- a row that is a place is its own model
+  pub place-has : (a : ℕ) → PlaceKind (scriptOf s .typeRow a .kind) → has (modelOf s a) a ≡ true
+  unfolding has modelForm
+  place-has a p = rw (model-row s e a) (go p)
+    where
+      go : PlaceKind (scriptOf s .typeRow a .kind) → has (modelForm (formAt s a) a (modelOf s)) a ≡ true
+      go (inl k) = rw k (eq-eqb a a refl)
+      go (inr (inl k)) = rw k (eq-eqb a a refl)
+      go (inr (inr (inl k))) = rw k (eq-eqb a a refl)
+      go (inr (inr (inr k))) = rw k (eq-eqb a a refl)

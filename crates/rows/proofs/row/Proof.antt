@@ -1,0 +1,71 @@
+-- `rows::row` meets its contract: four words from 4 (r - 1) on.
+use Rattle.rows.specs.Table.{cells-eq}
+use borrow.Author.Needs.{needs}
+use Rattle.rows.proofs.row.Statement.{statement}
+use Rattle.rows.proofs.row.Tie as tie
+use Rattle.rows.proofs.row.Reads as reads
+use Rattle.rows.proofs.row.Lts as lts
+use Rattle.words.proofs.word_at.Reads as word-at-reads
+
+-- src/lib.rt:22:18
+sub-i : tie.Need-sub-i
+sub-i c = search needs
+
+-- src/lib.rt:22:13
+mul-i : tie.Need-mul-i
+mul-i c = search needs
+
+-- src/lib.rt:24:15
+word-at-requires : tie.Need-word-at-requires
+word-at-requires c κs = search needs
+
+-- src/lib.rt:24:15
+cast-t5 : tie.Need-cast-t5
+cast-t5 c = search needs
+
+-- src/lib.rt:25:26
+add-word-at : tie.Need-add-word-at
+add-word-at c = search needs
+
+-- src/lib.rt:25:12
+word-at-requires-2 : tie.Need-word-at-requires-2
+word-at-requires-2 c κs = search needs
+
+-- src/lib.rt:26:26
+add-word-at-2 : tie.Need-add-word-at-2
+add-word-at-2 c = search needs
+
+-- src/lib.rt:26:12
+word-at-requires-3 : tie.Need-word-at-requires-3
+word-at-requires-3 c κs = search needs
+
+-- src/lib.rt:27:26
+add-word-at-3 : tie.Need-add-word-at-3
+add-word-at-3 c = search needs
+
+-- src/lib.rt:27:12
+word-at-requires-4 : tie.Need-word-at-requires-4
+word-at-requires-4 c κs = search needs
+
+-- src/lib.rt:17:1
+returns : tie.Need-returns
+returns c = (
+  cells-eq (c .before .before .before .word-at .ensures .0) (c .before .before .word-at2 .ensures .0) (c .before .word-at3 .ensures .0) (c .word-at4 .ensures .0),
+  record { kind = c .before .before .before .word-at .ensures .1; p = c .before .before .word-at2 .ensures .1; q = c .before .word-at3 .ensures .1; r = c .word-at4 .ensures .1 },
+)
+
+pub row-spec : {M : Type 1} → statement M
+row-spec =
+    tie.close
+    (tie.spec
+    sub-i
+    mul-i
+    word-at-requires
+    cast-t5
+    add-word-at
+    word-at-requires-2
+    add-word-at-2
+    word-at-requires-3
+    add-word-at-3
+    word-at-requires-4
+    returns)

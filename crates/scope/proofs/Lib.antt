@@ -1,0 +1,7 @@
+pub mod Places
+pub mod Hands
+pub mod ByKind
+pub mod Once
+pub mod Pass
+pub mod Arms
+pub mod Loops

@@ -1,0 +1,121 @@
+-- The head of a place by number: a label, 1024 text, 1025 bool, and 1026 for what is no place. Two places have one head exactly if they have one number.
+use Prim.Native.Nat.{ℕ, zero, suc, _≤_, _<_}
+use mathlib.Core.Path.{_≡_, refl, sym, _∙_, ap}
+use mathlib.Core.Bool.{true}
+use mathlib.Core.List.{List, [], _∷_}
+use mathlib.Core.Logic.{inl, inr}
+use native.Mathlib.Decide.{ℕ-discrete}
+use native.Mathlib.Omega.{arith}
+use lib.Dec.{eqb}
+use lib.ListN.{getD}
+use borrow.Author.Tests.{ne-eqb}
+use Rattle.meaning.specs.Sheet.{Cells, scriptOf}
+use Rattle.meaning.specs.Shape.{shapely}
+use Rattle.meaning.specs.Places.{acting, headOf, headAt, same-head}
+use Rattle.barren.specs.Rows.{label-row, name-row, named, kind-in}
+use Rattle.places.specs.Firsts.{PlaceKind}
+
+abbrev pub headNo : Cells → ℕ
+headNo c = getD (1026 ∷ 1026 ∷ 1024 ∷ 1025 ∷ c .p ∷ []) (c .kind) 1026
+
+-- the row that a place acts as
+abbrev pub actingAt : List ℕ → ℕ → Cells
+actingAt s a = acting (scriptOf s .typeRow) (scriptOf s .nameRow) a
+
+unfoldable pub headNumber : List ℕ → ℕ → ℕ
+headNumber s a = headNo (actingAt s a)
+
+pub head-number : (s : List ℕ) (a : ℕ) (c : Cells) → c ≡ actingAt s a → headNo c ≡ headNumber s a
+unfolding headNumber
+head-number s a c r = ap headNo r
+
+-- by the kind of the row that it acts as
+module _ (s : List ℕ) (a : ℕ) (c : Cells) (r : c ≡ actingAt s a) where
+  pub head-text : c .kind ≡ 2 → 1024 ≡ headNumber s a
+  head-text k = let h = head-number s a c r in rw k at h
+
+  pub head-bool : c .kind ≡ 3 → 1025 ≡ headNumber s a
+  head-bool k = let h = head-number s a c r in rw k at h
+
+  pub head-label : c .kind ≡ 4 → c .p ≡ headNumber s a
+  head-label k = let h = head-number s a c r in rw k at h
+
+  pub head-none : (c .kind ≡ 2 → ⊥) → (c .kind ≡ 3 → ⊥) → (c .kind ≡ 4 → ⊥) → 1026 ≡ headNumber s a
+  head-none x y z = sym (go (c .kind) x y z) ∙ head-number s a c r
+    where
+      go : (k : ℕ) → (k ≡ 2 → ⊥) → (k ≡ 3 → ⊥) → (k ≡ 4 → ⊥) → getD (1026 ∷ 1026 ∷ 1024 ∷ 1025 ∷ c .p ∷ []) k 1026 ≡ 1026
+      go zero x y z = refl
+      go (suc zero) x y z = refl
+      go (suc (suc zero)) x y z = absurd (x refl)
+      go (suc (suc (suc zero))) x y z = absurd (y refl)
+      go (suc (suc (suc (suc zero)))) x y z = absurd (z refl)
+      go (suc (suc (suc (suc (suc k))))) x y z = refl
+
+pub acts-named : (s : List ℕ) (a : ℕ) (c : Cells) → c ≡ scriptOf s .typeRow a → c .kind ≡ 8 → scriptOf s .typeRow (scriptOf s .nameRow (c .p)) ≡ actingAt s a
+acts-named s a c r k = let k′ : scriptOf s .typeRow a .kind ≡ 8 = rw r at k in rw (r, k′)
+
+pub acts-itself : (s : List ℕ) (a : ℕ) (c : Cells) → c ≡ scriptOf s .typeRow a → (c .kind ≡ 8 → ⊥) → c ≡ actingAt s a
+acts-itself s a c r k = rw (ne-eqb (scriptOf s .typeRow a .kind) 8 (λ z. k (rw r z))) r
+
+-- what a place acts as: text, bool, or a label that is one
+data ActsAs (c : Cells) : Type 0 where
+  a-text : c .kind ≡ 2 → ActsAs c
+  a-bool : c .kind ≡ 3 → ActsAs c
+  a-label : c .kind ≡ 4 → c .p ≤ 1023 → ActsAs c
+
+module _ (s : List ℕ) (e : shapely s ≡ true) where
+  itself : (a k : ℕ) → scriptOf s .typeRow a .kind ≡ k → (k ≡ 8 → ⊥) → scriptOf s .typeRow a ≡ actingAt s a
+  itself a k z n = acts-itself s a (scriptOf s .typeRow a) refl (λ w. n (sym z ∙ w))
+
+  acts-as : (a : ℕ) → PlaceKind (scriptOf s .typeRow a .kind) → ActsAs (actingAt s a)
+  acts-as a (inl k) = rw (← itself a 2 k (λ w. omega arith)) (a-text k)
+  acts-as a (inr (inl k)) = rw (← itself a 3 k (λ w. omega arith)) (a-bool k)
+  acts-as a (inr (inr (inl k))) = rw (← itself a 4 k (λ w. omega arith)) (a-label k (label-row s e a (kind-in s a 3 k) k .0))
+  acts-as a (inr (inr (inr k))) =
+      let x = named s e (scriptOf s .typeRow a .p) (name-row s e a (kind-in s a 7 k) k) in
+      rw (← acts-named s a (scriptOf s .typeRow a) refl k) (a-label (x .1) (label-row s e (scriptOf s .nameRow (scriptOf s .typeRow a .p)) (x .0) (x .1) .0))
+
+  small : {c : Cells} → ActsAs c → headNo c < 1026
+  small (a-text k) = rw k (omega arith)
+  small (a-bool k) = rw k (omega arith)
+  small (a-label k l) = rw k (omega arith)
+
+  one-head : {c d : Cells} → ActsAs c → ActsAs d → same-head (headOf c) (headOf d) ≡ eqb (headNo c) (headNo d)
+  unfolding same-head
+  one-head (a-text k) (a-text z) = rw (k, z)
+  one-head (a-text k) (a-bool z) = rw (k, z)
+  one-head {c} {d} (a-text k) (a-label z l) = rw (k, z) (sym (ne-eqb 1024 (d .p) (λ w. omega arith)))
+  one-head (a-bool k) (a-text z) = rw (k, z)
+  one-head (a-bool k) (a-bool z) = rw (k, z)
+  one-head {c} {d} (a-bool k) (a-label z l) = rw (k, z) (sym (ne-eqb 1025 (d .p) (λ w. omega arith)))
+  one-head {c} {d} (a-label k l) (a-text z) = rw (k, z) (sym (ne-eqb (c .p) 1024 (λ w. omega arith)))
+  one-head {c} {d} (a-label k l) (a-bool z) = rw (k, z) (sym (ne-eqb (c .p) 1025 (λ w. omega arith)))
+  one-head (a-label k l) (a-label z m) = rw (k, z)
+
+  pub place-head : (a : ℕ) → PlaceKind (scriptOf s .typeRow a .kind) → headNumber s a < 1026
+  unfolding headNumber
+  place-head a p = small (acts-as a p)
+
+  pub heads-same : (a b : ℕ) → PlaceKind (scriptOf s .typeRow a .kind) → PlaceKind (scriptOf s .typeRow b .kind)
+      → same-head (headAt (scriptOf s .typeRow) (scriptOf s .nameRow) a) (headAt (scriptOf s .typeRow) (scriptOf s .nameRow) b) ≡ eqb (headNumber s a) (headNumber s b)
+  unfolding headNumber
+  heads-same a b p q = one-head (acts-as a p) (acts-as b q)
+
+  -- what has a head is a place
+  headed : (c : Cells) → headNo c < 1026 → PlaceKind (c .kind)
+  headed c h = go (c .kind) h
+    where
+      go : (k : ℕ) → getD (1026 ∷ 1026 ∷ 1024 ∷ 1025 ∷ c .p ∷ []) k 1026 < 1026 → PlaceKind k
+      go zero h = absurd (omega arith)
+      go (suc zero) h = absurd (omega arith)
+      go (suc (suc zero)) h = inl refl
+      go (suc (suc (suc zero))) h = inr (inl refl)
+      go (suc (suc (suc (suc zero)))) h = inr (inr (inl refl))
+      go (suc (suc (suc (suc (suc k))))) h = absurd (omega arith)
+
+  pub head-place : (a : ℕ) → headNumber s a < 1026 → PlaceKind (scriptOf s .typeRow a .kind)
+  unfolding headNumber
+  head-place a h = elim (ℕ-discrete (scriptOf s .typeRow a .kind) 8) [
+    | yes k ↦ inr (inr (inr k))
+    | no k ↦ headed (scriptOf s .typeRow a) (rw (← acts-itself s a (scriptOf s .typeRow a) refl k) at h)
+  ]

@@ -1,0 +1,4 @@
+pub mod Heads
+pub mod Classes
+pub mod Points
+pub mod Sound

@@ -1,0 +1,287 @@
+// Heads of places, ties, and whether a well shaped sheet is sound: refusals 3 and 4. Ones count the places of a head at a point; trailing zeros find the lowest and its lowest rival.
+use sheet::Layout;
+use sheet::Row;
+ghost use mathlib.Core.Path.{_≡_};
+ghost use mathlib.Core.Bool.{true};
+ghost use Prim.Native.Nat.{_+_, _<_, _≤_};
+ghost use lib.ListN.{replicate};
+ghost use Rattle.meaning.specs.Sheet.{scriptOf};
+ghost use Rattle.meaning.specs.Shape.{shapely};
+ghost use Rattle.sheet.specs.Laid.{Laid, cellsOf};
+ghost use Rattle.bits.specs.Sets.{inSet};
+ghost use Rattle.places.specs.Tables.{setOf, Clear};
+ghost use Rattle.ties.specs.Heads.{actingAt, headNumber};
+ghost use Rattle.ties.specs.Classes.{Led, Classed, Classes};
+ghost use Rattle.ties.specs.Sound.{SaysTie, soundOf};
+ghost use Rattle.meaning.specs.Reply.{Loads};
+ghost use Rattle.ties.specs.Points.{PointTie, OfPlace, Least, Lower, AtStart, AtPlace, Upto};
+
+// Two tied rows; row 0 where there are none.
+pub struct Tied {
+    pub row: usize,
+    pub rival: usize,
+}
+
+// The row that a place acts as: a name's label row, and else itself.
+pub fn acting(s: &[u8], l: Layout, a: usize) -> Row
+    requires { ⌜ Laid (now s) l ⌝ }
+    ensures { λ c. ⌜ cellsOf c ≡ actingAt (now (s .entry)) a ⌝ }
+{
+    let c = sheet::type_row(s, l, a);
+    if c.kind == 8 {
+        return sheet::type_row(s, l, sheet::name_row(s, l, c.p));
+    }
+    c
+}
+
+// The head of a place by number: a label, 1024 text, 1025 bool; 1026 for what is no place.
+pub fn head(s: &[u8], l: Layout, a: usize) -> usize
+    requires { ⌜ Laid (now s) l ⌝ }
+    ensures { λ h. ⌜ h ≡ headNumber (now (s .entry)) a ⌝ }
+{
+    let c = acting(s, l, a);
+    let kind = c.kind;
+    match kind {
+        2 => 1024,
+        3 => 1025,
+        4 => c.p,
+        0..=1 | 5..=65535 => 1026,
+    }
+}
+
+fn wide(x: u16) -> usize
+    ensures { λ r. ⌜ r ≡ x ⌝ }
+{
+    x as usize
+}
+
+// The lowest place of head `h`, which is `i` where there was none.
+fn lead(h: usize, i: usize, class: &mut [u16; 1026]) -> usize
+    requires { ⌜ (h < 1026) × (i < 65536) ⌝ }
+    ensures { λ r. ⌜ Led (now (class .entry)) (now (class .exit)) h i r ⌝ }
+{
+    let c = class[h];
+    if c != 0 {
+        return wide(c);
+    }
+    class[h] = i as u16;
+    i
+}
+
+// Puts row `i + 1` into the class of its head.
+fn classify(s: &[u8], l: Layout, i: usize, class: &mut [u16; 1026], same: &mut [u64; 4617])
+    requires { ⌜ shapely (now s) ≡ true ⌝ }
+    requires { ⌜ Laid (now s) l ⌝ }
+    requires { ⌜ i < l .types ⌝ }
+    requires { ⌜ Classed (now s) (now class) (now same) i ⌝ }
+    ensures { λ _. ⌜ Classed (now (s .entry)) (now (class .exit)) (now (same .exit)) (i + 1) ⌝ }
+{
+    let h = head(s, l, i + 1);
+    if h < 1026 {
+        let c = lead(h, i + 1, class);
+        bits::add(same, c, i + 1);
+    }
+}
+
+// The places of each head: `class` has for each head the lowest place with it (0: none), and that set of `same` holds them all.
+pub fn classes(s: &[u8], l: Layout, class: &mut [u16; 1026], same: &mut [u64; 4617])
+    requires { ⌜ shapely (now s) ≡ true ⌝ }
+    requires { ⌜ Laid (now s) l ⌝ }
+    requires { ⌜ now class ≡ replicate 1026 0 ⌝ }
+    requires { ⌜ Clear (now same) ⌝ }
+    ensures { λ _. ⌜ Classes (now (s .entry)) (now (class .exit)) (now (same .exit)) ⌝ }
+{
+    let mut i = 0;
+    while i < l.types {
+        classify(s, l, i, class, same);
+        i += 1;
+    }
+}
+
+// The lower of two: by the row, then by the rival.
+fn lower(best: Tied, found: Tied) -> Tied
+    ensures { λ r. ⌜ Lower best found r ⌝ }
+{
+    if found.row == 0 {
+        return best;
+    }
+    if best.row == 0 {
+        return found;
+    }
+    if found.row < best.row {
+        return found;
+    }
+    if best.row < found.row {
+        return best;
+    }
+    if found.rival < best.rival {
+        return found;
+    }
+    best
+}
+
+// The lowest place with the head of place `i` at one point, set `k` of `t`, with its lowest rival.
+fn of_place(
+    s: &[u8],
+    l: Layout,
+    t: &[u64; 4617],
+    k: usize,
+    i: usize,
+    class: &[u16; 1026],
+    same: &[u64; 4617],
+) -> Tied
+    requires { ⌜ shapely (now s) ≡ true ⌝ }
+    requires { ⌜ Laid (now s) l ⌝ }
+    requires { ⌜ (k ≤ 512) × (i < 576) ⌝ }
+    requires { ⌜ inSet (now t) k i ≡ true ⌝ }
+    requires { ⌜ Classes (now s) (now class) (now same) ⌝ }
+    ensures { λ r. ⌜ OfPlace (now (s .entry)) (setOf (now (t .entry)) k) i r ⌝ }
+{
+    let h = head(s, l, i);
+    if 1026 <= h {
+        return Tied { row: 0, rival: 0 };
+    }
+    let c = wide(class[h]);
+    if bits::count_both(t, k, same, c) < 2 {
+        return Tied { row: 0, rival: 0 };
+    }
+    let row = bits::lowest_both(t, k, same, c, 0);
+    let rival = bits::lowest_both(t, k, same, c, row + 1);
+    Tied { row, rival }
+}
+
+// The lowest tie at one point.
+fn at_point(
+    s: &[u8],
+    l: Layout,
+    t: &[u64; 4617],
+    k: usize,
+    class: &[u16; 1026],
+    same: &[u64; 4617],
+) -> Tied
+    requires { ⌜ shapely (now s) ≡ true ⌝ }
+    requires { ⌜ Laid (now s) l ⌝ }
+    requires { ⌜ k ≤ 512 ⌝ }
+    requires { ⌜ Classes (now s) (now class) (now same) ⌝ }
+    ensures { λ r. ⌜ Least (PointTie (now (s .entry)) (setOf (now (t .entry)) k)) r ⌝ }
+{
+    let mut i = bits::lowest_both(t, k, t, k, 1);
+    while i < 576 {
+        let found = of_place(s, l, t, k, i, class, same);
+        if found.row != 0 {
+            return found;
+        }
+        i = bits::lowest_both(t, k, t, k, i + 1);
+    }
+    Tied { row: 0, rival: 0 }
+}
+
+// The lowest tie where row `i` begins, if that is a root.
+fn at_start(
+    s: &[u8],
+    l: Layout,
+    i: usize,
+    root: &[u8; 513],
+    first: &[u64; 4617],
+    class: &[u16; 1026],
+    same: &[u64; 4617],
+) -> Tied
+    requires { ⌜ shapely (now s) ≡ true ⌝ }
+    requires { ⌜ Laid (now s) l ⌝ }
+    requires { ⌜ i ≤ 512 ⌝ }
+    requires { ⌜ Classes (now s) (now class) (now same) ⌝ }
+    ensures { λ r. ⌜ Least (AtStart (now (s .entry)) (now (root .entry)) (now (first .entry)) i) r ⌝ }
+{
+    if root[i] == 1 {
+        return at_point(s, l, first, i, class, same);
+    }
+    Tied { row: 0, rival: 0 }
+}
+
+// The lowest tie behind row `i`, if that is a place.
+fn at_place(
+    s: &[u8],
+    l: Layout,
+    i: usize,
+    behind: &[u64; 4617],
+    class: &[u16; 1026],
+    same: &[u64; 4617],
+) -> Tied
+    requires { ⌜ shapely (now s) ≡ true ⌝ }
+    requires { ⌜ Laid (now s) l ⌝ }
+    requires { ⌜ i ≤ 512 ⌝ }
+    requires { ⌜ Classes (now s) (now class) (now same) ⌝ }
+    ensures { λ r. ⌜ Least (AtPlace (now (s .entry)) (now (behind .entry)) i) r ⌝ }
+{
+    if head(s, l, i) < 1026 {
+        return at_point(s, l, behind, i, class, same);
+    }
+    Tied { row: 0, rival: 0 }
+}
+
+// The lowest row concerned with its lowest rival, over all points: where a model begins, and behind each place.
+fn tie(
+    s: &[u8],
+    l: Layout,
+    root: &[u8; 513],
+    first: &[u64; 4617],
+    behind: &[u64; 4617],
+    class: &[u16; 1026],
+    same: &[u64; 4617],
+) -> Tied
+    requires { ⌜ shapely (now s) ≡ true ⌝ }
+    requires { ⌜ Laid (now s) l ⌝ }
+    requires { ⌜ Classes (now s) (now class) (now same) ⌝ }
+    ensures { λ r. ⌜ Least (Upto (now (s .entry)) (now (root .entry)) (now (first .entry)) (now (behind .entry)) (scriptOf (now (s .entry)) .types)) r ⌝ }
+{
+    let mut best = Tied { row: 0, rival: 0 };
+    let mut i = 0;
+    while i < l.types {
+        best = lower(best, at_start(s, l, i + 1, root, first, class, same));
+        best = lower(best, at_place(s, l, i + 1, behind, class, same));
+        i += 1;
+    }
+    best
+}
+
+// The lowest tie of a sheet: its tables, then all points.
+fn lowest_tie(s: &[u8], l: Layout) -> Tied
+    requires { ⌜ shapely (now s) ≡ true ⌝ }
+    requires { ⌜ Laid (now s) l ⌝ }
+    ensures { λ r. ⌜ SaysTie (now (s .entry)) r ⌝ }
+{
+    let mut null = [0u8; 513];
+    let mut first = [0u64; 4617];
+    let mut root = [0u8; 513];
+    let mut behind = [0u64; 4617];
+    let mut class = [0u16; 1026];
+    let mut same = [0u64; 4617];
+    places::firsts(s, l, &mut null, &mut first);
+    places::roots(s, l, &mut root);
+    places::behinds(s, l, l.types, &root, &null, &first, &mut behind);
+    classes(s, l, &mut class, &mut same);
+    tie(s, l, &root, &first, &behind, &class, &same)
+}
+
+// Refusals 3 and 4, of a sheet that is well shaped.
+pub enum Soundness {
+    Done,
+    Barren(usize),
+    Tie(Tied),
+}
+
+pub fn sound(s: &[u8], l: Layout) -> Soundness
+    requires { ⌜ shapely (now s) ≡ true ⌝ }
+    requires { ⌜ Laid (now s) l ⌝ }
+    ensures { λ r. ⌜ Loads (now (s .entry)) (soundOf r) ⌝ }
+{
+    let x = barren::barren(s, l);
+    if x != 0 {
+        return Soundness::Barren(x);
+    }
+    let t = lowest_tie(s, l);
+    if t.row == 0 {
+        return Soundness::Done;
+    }
+    Soundness::Tie(t)
+}

@@ -1,0 +1,4 @@
+pub mod Purse
+pub mod Scope
+pub mod Meets
+pub mod Loop
