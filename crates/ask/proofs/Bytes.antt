@@ -24,11 +24,6 @@ pool-small s l h =
     let L : Laid s l = laid-of s l h in
     omega (arith, L .pool-at, L .names, L .types, L .queries, L .statements, L .procedures, L .rows, L .few-names, L .few-types, L .few-queries, L .few-statements, L .few-procedures, L .few-rows)
 
-pub queries-small : (s : List ℕ) (l : Layout) → Lay s l → (l .«queries_at» < 4194304) × (l .queries < 65536)
-queries-small s l h =
-    let L : Laid s l = laid-of s l h in
-    (omega (arith, L .queries-at, L .names, L .types, L .few-names, L .few-types), L .few-queries)
-
 module _ (byte : ℕ → ℕ) where
   -- as many bytes, or not the same
   pub other-size : (o p n m : ℕ) → (n ≡ m → ⊥) → sameBytes (bytesFrom byte o n) (bytesFrom byte p m) ≡ false

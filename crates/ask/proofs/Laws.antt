@@ -31,19 +31,6 @@ use Rattle.ask.specs.Ask.{pool, Asks, fits, fits-body, asked, row-asked,
 pub met-stuck : {w : Quiet Forest} {byte : ℕ → ℕ} {used : ℕ} {old new : List ℕ} (at : ℕ) (p : Purse) → w ≡ halt (stuck (of-query at)) → Meets w byte (p .left) used old new (Not (Stuck at 1 p))
 met-stuck at p h = met-as h (met-stop (stop-stuck at 1 p))
 
--- kinds that no query has
-five-up : {k : ℕ} → (k ≡ 0 → ⊥) → (k ≡ 1 → ⊥) → (k ≡ 2 → ⊥) → (k ≡ 3 → ⊥) → (k ≡ 4 → ⊥) → 5 ≤ k
-five-up a b c d e = omega arith
-
-ten-up : {k : ℕ} → 5 ≤ k → (k ≡ 5 → ⊥) → (k ≡ 6 → ⊥) → (k ≡ 7 → ⊥) → (k ≡ 8 → ⊥) → (k ≡ 9 → ⊥) → 10 ≤ k
-ten-up h a b c d e = omega arith
-
-last-up : {k : ℕ} → 10 ≤ k → (k ≡ 10 → ⊥) → (k ≡ 11 → ⊥) → (k ≡ 12 → ⊥) → (k ≡ 13 → ⊥) → 14 ≤ k
-last-up h a b c d = omega arith
-
-pub fourteen-up : {k : ℕ} → (k ≡ 0 → ⊥) → (k ≡ 1 → ⊥) → (k ≡ 2 → ⊥) → (k ≡ 3 → ⊥) → (k ≡ 4 → ⊥) → (k ≡ 5 → ⊥) → (k ≡ 6 → ⊥) → (k ≡ 7 → ⊥) → (k ≡ 8 → ⊥) → (k ≡ 9 → ⊥) → (k ≡ 10 → ⊥) → (k ≡ 11 → ⊥) → (k ≡ 12 → ⊥) → (k ≡ 13 → ⊥) → 14 ≤ k
-fourteen-up a b c d e f g h i j k l m n = last-up (ten-up (five-up a b c d e) f g h i j) k l m n
-
 -- ---- two texts
 
 pub texts-stuck : {x y u v : Seen} (at : ℕ) → x ≡ u → y ≡ v → same-texts (of-query at) u v ≡ halt (stuck (of-query at)) → same-texts (of-query at) x y ≡ halt (stuck (of-query at))

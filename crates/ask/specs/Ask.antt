@@ -172,6 +172,19 @@ module _ (s : List ℕ) (d : ℕ) (e : Scope) where
 
 -- ---- what a row says
 
+-- kinds that no query has
+five-up : {k : ℕ} → (k ≡ 0 → ⊥) → (k ≡ 1 → ⊥) → (k ≡ 2 → ⊥) → (k ≡ 3 → ⊥) → (k ≡ 4 → ⊥) → 5 ≤ k
+five-up a b c d e = omega arith
+
+ten-up : {k : ℕ} → 5 ≤ k → (k ≡ 5 → ⊥) → (k ≡ 6 → ⊥) → (k ≡ 7 → ⊥) → (k ≡ 8 → ⊥) → (k ≡ 9 → ⊥) → 10 ≤ k
+ten-up h a b c d e = omega arith
+
+last-up : {k : ℕ} → 10 ≤ k → (k ≡ 10 → ⊥) → (k ≡ 11 → ⊥) → (k ≡ 12 → ⊥) → (k ≡ 13 → ⊥) → 14 ≤ k
+last-up h a b c d = omega arith
+
+pub fourteen-up : {k : ℕ} → (k ≡ 0 → ⊥) → (k ≡ 1 → ⊥) → (k ≡ 2 → ⊥) → (k ≡ 3 → ⊥) → (k ≡ 4 → ⊥) → (k ≡ 5 → ⊥) → (k ≡ 6 → ⊥) → (k ≡ 7 → ⊥) → (k ≡ 8 → ⊥) → (k ≡ 9 → ⊥) → (k ≡ 10 → ⊥) → (k ≡ 11 → ⊥) → (k ≡ 12 → ⊥) → (k ≡ 13 → ⊥) → 14 ≤ k
+fourteen-up a b c d e f g h i j k l m n = last-up (ten-up (five-up a b c d e) f g h i j) k l m n
+
 module _ (s : List ℕ) (at : ℕ) (c : Row) (is : cellsOf c ≡ scriptOf s .queryRow at) where
   pub form-is : (n : ℕ) → c .kind ≡ n → queryAt (scriptOf s) at ≡ queryForm (record { kind = n; p = c .p; q = c .q; r = c .r })
   form-is n e = ap queryForm (sym is) ∙ ap (λ (j : ℕ). queryForm (record { kind = j; p = c .p; q = c .q; r = c .r })) e

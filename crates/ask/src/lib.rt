@@ -5,27 +5,23 @@ use rows::keep;
 use rows::make;
 use rows::picked;
 use sheet::Layout;
-use sheet::Row;
 use walk::Answer;
 use walk::Purse;
 use walk::Scope;
 use walk::Stop;
 use walk::Taken;
 use words::wide;
-use words::word_at;
 ghost use mathlib.Core.Path.{_≡_};
 ghost use Prim.Native.Nat.{ℕ, _+_, _<_, _≤_};
 ghost use lib.ListN.{getD};
-ghost use Rattle.meaning.specs.Sheet.{scriptOf};
 ghost use Rattle.meaning.specs.Kinds.{Query};
 ghost use Rattle.meaning.specs.Forest.{count, forestAt, bytesFrom, sameBytes, boolKind};
 ghost use Rattle.meaning.specs.Walk.{of-query};
 ghost use Rattle.meaning.specs.Run.{seen, inside, same-texts, each};
 ghost use Rattle.meaning.specs.Theorems.ReadBack.{lentRow};
-ghost use Rattle.sheet.specs.Laid.{cellsOf};
 ghost use Rattle.walk.specs.Meets.{Roomy, Meets, Ran};
 ghost use Rattle.walk.specs.Loop.{Links, Turns, alone, gathered, turnOf};
-ghost use Rattle.rows.specs.Rows.{Words, Readable};
+ghost use Rattle.rows.specs.Rows.{Readable};
 ghost use Rattle.ask.specs.Ask.{Lay, Asks, pool, fits, fits-row, fits-body, asked, row-asked, body-asked};
 
 // Byte `i`; what lies past the end reads as 0.
@@ -115,37 +111,6 @@ fn children(rows: &[u8], root: usize) -> usize
     }
 }
 
-// Query row `at`, whose words are words.
-fn row_at(s: &[u8], l: Layout, at: usize) -> Row
-    requires { ⌜ Lay (now s) l ⌝ }
-    ensures is { λ c. ⌜ cellsOf c ≡ scriptOf (now (s .entry)) .queryRow at ⌝ }
-    ensures small { λ c. ⌜ Words (cellsOf c) ⌝ }
-{
-    if at == 0 {
-        return Row {
-            kind: 0,
-            p: 0,
-            q: 0,
-            r: 0,
-        };
-    }
-    if l.queries < at {
-        return Row {
-            kind: 0,
-            p: 0,
-            q: 0,
-            r: 0,
-        };
-    }
-    let i = l.queries_at + 4 * (at - 1);
-    Row {
-        kind: word_at(s, i) as u16,
-        p: word_at(s, i + 1),
-        q: word_at(s, i + 2),
-        r: word_at(s, i + 3),
-    }
-}
-
 // Query row `at`.
 pub fn query(
     s: &[u8],
@@ -166,7 +131,7 @@ pub fn query(
     match purse.take() {
         Taken::Fuel => Answer::Not(Stop::Fuel),
         Taken::Left(rest) => {
-            let c = row_at(s, l, at);
+            let c = sheet::query_row(s, l, at);
             let kind = c.kind;
             match kind {
                 1 => Answer::Done {

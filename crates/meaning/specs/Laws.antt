@@ -13,3 +13,4 @@ pub mod Wired
 pub mod Sure
 pub mod Apart
 pub mod Passes
+pub mod Scoped

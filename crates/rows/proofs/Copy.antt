@@ -14,7 +14,8 @@ use Rattle.meaning.specs.Laws.Rows.{LowRow, LowRows, SameRows, tree-same, fores
 use Rattle.meaning.specs.Theorems.ReadBack.{lentRow}
 use Rattle.walk.specs.Meets.{low-same, same-trans, forest-kept}
 use Rattle.walk.specs.Loop.{Links, gathered}
-use Rattle.rows.specs.Rows.{Words, Readable, Pushed, JoinAsks, Wrote, Joined, GatherAsks, Gathered, PickAsks, Picked, Labelled, Sought}
+use Rattle.sheet.specs.Laid.{Words}
+use Rattle.rows.specs.Rows.{Readable, Pushed, JoinAsks, Wrote, Joined, GatherAsks, Gathered, PickAsks, Picked, Labelled, Sought}
 use Rattle.rows.specs.Table.{read-next, read-child, read-forest, read-count, forest-none, count-none, push-low, push-forest}
 use Rattle.rows.proofs.Labels.{node-form, out-three, pick-yes, pick-count, kept-none, count-kept-none, sought-kept}
 

@@ -15,7 +15,8 @@ use Rattle.meaning.specs.Laws.Rows.{LowRow, LowRows, SameRows, forestAt-zero}
 use Rattle.meaning.specs.Theorems.ReadBack.{lentRow}
 use Rattle.walk.specs.Meets.{Roomy, Finished, leads-pay}
 use Rattle.walk.specs.Loop.{Links, gathered, keepOf, Turned}
-use Rattle.rows.specs.Rows.{Words, Readable, Pushed, JoinAsks, Wrote, PickAsks, MakeAsks, made}
+use Rattle.sheet.specs.Laid.{Words}
+use Rattle.rows.specs.Rows.{Readable, Pushed, JoinAsks, Wrote, PickAsks, MakeAsks, made}
 use Rattle.rows.specs.Table.{read-next, read-child, read-forest, forest-none, push-low, push-forest}
 use Rattle.rows.proofs.Labels.{node-form, out-three}
 

@@ -17,13 +17,6 @@ use Rattle.walk.specs.Loop.{Links, gathered}
 use Rattle.rows.specs.declared.Seen.{Seen}
 use Rattle.rows.specs.declared.Seen.the-variants.{Nothing, Many, Text, Bool, Node}
 
--- the words of a row are words
-pub record Words (c : Cells) : Type 0 where
-  pub kind : c .kind < 65536
-  pub p : c .p < 65536
-  pub q : c .q < 65536
-  pub r : c .r < 65536
-
 -- rows up to r refer to lower ones
 pub record Readable (rows : List ℕ) (r : ℕ) : Type 0 where
   pub low : LowRows (lentRow rows) r

@@ -16,7 +16,8 @@ use Rattle.meaning.specs.Laws.Rows.{LowRow, LowRows, SameRows, tree-same, fores
 use Rattle.meaning.specs.Theorems.ReadBack.{lentRow}
 use Rattle.words.specs.Puts.{putWord}
 use Rattle.walk.specs.Meets.{low-same, forest-kept}
-use Rattle.rows.specs.Rows.{Words, Pushed}
+use Rattle.sheet.specs.Laid.{Words}
+use Rattle.rows.specs.Rows.{Pushed}
 
 -- ---- words
 

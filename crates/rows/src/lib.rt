@@ -12,10 +12,10 @@ ghost use lib.ListN.{length};
 ghost use Rattle.meaning.specs.Forest.{count, forestAt};
 ghost use Rattle.meaning.specs.Run.{kept};
 ghost use Rattle.meaning.specs.Theorems.ReadBack.{lentRow};
-ghost use Rattle.sheet.specs.Laid.{cellsOf};
+ghost use Rattle.sheet.specs.Laid.{Words, cellsOf};
 ghost use Rattle.walk.specs.Meets.{Meets, Roomy};
 ghost use Rattle.walk.specs.Loop.{Links, Turns, gathered, keepOf};
-ghost use Rattle.rows.specs.Rows.{Words, Readable, Pushed, JoinAsks, Joined, GatherAsks, Gathered, PickAsks, Picked, Judged, Sought, Sees, MakeAsks, made, fronted, pickedOf};
+ghost use Rattle.rows.specs.Rows.{Readable, Pushed, JoinAsks, Joined, GatherAsks, Gathered, PickAsks, Picked, Judged, Sought, Sees, MakeAsks, made, fronted, pickedOf};
 
 // Row `r`, from 1.
 pub fn row(rows: &[u8], r: usize) -> Row

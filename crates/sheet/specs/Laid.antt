@@ -20,6 +20,16 @@ cellsOf c = record { kind = c .kind; p = c .p; q = c .q; r = c .r }
 abbrev pub procedureOf : Procedure → meaning.Procedure
 procedureOf c = record { first = c .first; second = c .second; input = c .input; output = c .output; body = c .body }
 
+-- the words of a row are words
+pub record Words (c : Cells) : Type 0 where
+  pub kind : c .kind < 65536
+  pub p : c .p < 65536
+  pub q : c .q < 65536
+  pub r : c .r < 65536
+
+pub blank-words : {c : Cells} → c ≡ blank → Words c
+blank-words e = rw e (record { kind = omega arith; p = omega arith; q = omega arith; r = omega arith })
+
 -- the layout is that of the sheet s
 pub record Laid (s : List ℕ) (l : Layout) : Type 0 where
   pub names : l .names ≡ names-of s

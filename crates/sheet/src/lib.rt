@@ -3,7 +3,7 @@ use words::word_at;
 ghost use mathlib.Core.Path.{_≡_};
 ghost use Prim.Native.Nat.{ℕ, _+_, _*_, _-_, _<_, _≤_};
 ghost use Rattle.meaning.specs.Sheet.{blank, need, scriptOf, groveOf, row3, row4, row5};
-ghost use Rattle.sheet.specs.Laid.{Laid, cellsOf, procedureOf};
+ghost use Rattle.sheet.specs.Laid.{Laid, Words, cellsOf, procedureOf};
 
 // One row of types, queries, statements or forests: its kind and its words. Types have no `r`; in a forest row it is the next tree.
 pub struct Row {
@@ -122,7 +122,8 @@ fn row_of_three(s: &[u8], at: usize, n: usize, r: usize) -> Row
 
 fn row_of_four(s: &[u8], at: usize, n: usize, r: usize) -> Row
     requires { ⌜ (at < 4194304) × (n < 65536) ⌝ }
-    ensures { λ c. ⌜ cellsOf c ≡ row4 (now (s .entry)) at n r ⌝ }
+    ensures is { λ c. ⌜ cellsOf c ≡ row4 (now (s .entry)) at n r ⌝ }
+    ensures small { λ c. ⌜ Words (cellsOf c) ⌝ }
 {
     if r == 0 {
         return no_row();
@@ -162,14 +163,16 @@ pub fn type_row(s: &[u8], l: Layout, r: usize) -> Row
 
 pub fn query_row(s: &[u8], l: Layout, r: usize) -> Row
     requires { ⌜ Laid (now s) l ⌝ }
-    ensures { λ c. ⌜ cellsOf c ≡ scriptOf (now (s .entry)) .queryRow r ⌝ }
+    ensures is { λ c. ⌜ cellsOf c ≡ scriptOf (now (s .entry)) .queryRow r ⌝ }
+    ensures small { λ c. ⌜ Words (cellsOf c) ⌝ }
 {
     row_of_four(s, l.queries_at, l.queries, r)
 }
 
 pub fn statement_row(s: &[u8], l: Layout, r: usize) -> Row
     requires { ⌜ Laid (now s) l ⌝ }
-    ensures { λ c. ⌜ cellsOf c ≡ scriptOf (now (s .entry)) .statementRow r ⌝ }
+    ensures is { λ c. ⌜ cellsOf c ≡ scriptOf (now (s .entry)) .statementRow r ⌝ }
+    ensures small { λ c. ⌜ Words (cellsOf c) ⌝ }
 {
     row_of_four(s, l.statements_at, l.statements, r)
 }

@@ -42,7 +42,7 @@ row-ok-requires c κs = tt
 
 -- src/lib.rt:248:13
 returns : tie.Need-returns Inv-loop μ-loop
-returns c = sym (statements-are (c .before .before .before .before .before .before .before .before .pre) ∙ fails (statementTest (c .before .before .before .before .before .before .before .before .args .s .now)) (c .before .before .before .before .before .before .before .before .args .l .statements) (c .before .before .before .before .before .before .loop .i) (c .before .before .before .before .if1 .taken) (turn (sheetOf (c .before .before .before .before .before .before .before .before .args .s .now)) 14 (statementUses (scriptOf (c .before .before .before .before .before .before .before .before .args .s .now) .procedureRow)) (c .before .before .before .before .before .before .loop .i + 1) (c .before .before .before .statement-row .ensures) (c .before .before .statement-uses .ensures) (c .before .row-ok .ensures (c .before .before .before .before .before .before .before .before .args .s .now) (c .before .before .before .before .before .before .before .before .pre))) (c .if2 .taken))
+returns c = sym (statements-are (c .before .before .before .before .before .before .before .before .pre) ∙ fails (statementTest (c .before .before .before .before .before .before .before .before .args .s .now)) (c .before .before .before .before .before .before .before .before .args .l .statements) (c .before .before .before .before .before .before .loop .i) (c .before .before .before .before .if1 .taken) (turn (sheetOf (c .before .before .before .before .before .before .before .before .args .s .now)) 14 (statementUses (scriptOf (c .before .before .before .before .before .before .before .before .args .s .now) .procedureRow)) (c .before .before .before .before .before .before .loop .i + 1) (c .before .before .before .statement-row .ensures .0) (c .before .before .statement-uses .ensures) (c .before .row-ok .ensures (c .before .before .before .before .before .before .before .before .args .s .now) (c .before .before .before .before .before .before .before .before .pre))) (c .if2 .taken))
 
 -- src/lib.rt:244:5
 loop-less : tie.Need-loop-less Inv-loop μ-loop
@@ -50,7 +50,7 @@ loop-less c = omega arith
 
 -- src/lib.rt:244:5
 loop-again : tie.Need-loop-again Inv-loop μ-loop
-loop-again c = one-more (statementTest (c .before .before .before .before .before .before .before .before .args .s .now)) (c .before .before .before .before .before .before .before .before .args .l .statements) (c .before .before .before .before .before .before .loop .i) (c .before .before .before .before .before .before .loop .inv) (c .before .before .before .before .if1 .taken) (turn (sheetOf (c .before .before .before .before .before .before .before .before .args .s .now)) 14 (statementUses (scriptOf (c .before .before .before .before .before .before .before .before .args .s .now) .procedureRow)) (c .before .before .before .before .before .before .loop .i + 1) (c .before .before .before .statement-row .ensures) (c .before .before .statement-uses .ensures) (c .before .row-ok .ensures (c .before .before .before .before .before .before .before .before .args .s .now) (c .before .before .before .before .before .before .before .before .pre))) (c .if2 .left)
+loop-again c = one-more (statementTest (c .before .before .before .before .before .before .before .before .args .s .now)) (c .before .before .before .before .before .before .before .before .args .l .statements) (c .before .before .before .before .before .before .loop .i) (c .before .before .before .before .before .before .loop .inv) (c .before .before .before .before .if1 .taken) (turn (sheetOf (c .before .before .before .before .before .before .before .before .args .s .now)) 14 (statementUses (scriptOf (c .before .before .before .before .before .before .before .before .args .s .now) .procedureRow)) (c .before .before .before .before .before .before .loop .i + 1) (c .before .before .before .statement-row .ensures .0) (c .before .before .statement-uses .ensures) (c .before .row-ok .ensures (c .before .before .before .before .before .before .before .before .args .s .now) (c .before .before .before .before .before .before .before .before .pre))) (c .if2 .left)
 
 -- src/lib.rt:239:1
 returns-2 : tie.Need-returns-2 Inv-loop μ-loop

@@ -15,7 +15,7 @@ row-of-four-requires c κs = search needs
 
 -- src/lib.rt:141:1
 returns : tie.Need-returns
-returns c = c .row-of-four .ensures ∙ forest-table (c .before .before .pre) (c .before .before .args .r)
+returns c = c .row-of-four .ensures .0 ∙ forest-table (c .before .before .pre) (c .before .before .args .r)
 
 pub forest-row-spec : {M : Type 1} → statement M
 forest-row-spec = tie.close (tie.spec row-of-four-requires returns)

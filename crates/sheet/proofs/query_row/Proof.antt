@@ -15,7 +15,7 @@ row-of-four-requires c κs = search needs
 
 -- src/lib.rt:127:1
 returns : tie.Need-returns
-returns c = c .row-of-four .ensures ∙ query-table (c .before .before .pre) (c .before .before .args .r)
+returns c = (c .row-of-four .ensures .0 ∙ query-table (c .before .before .pre) (c .before .before .args .r), c .row-of-four .ensures .1)
 
 pub query-row-spec : {M : Type 1} → statement M
 query-row-spec = tie.close (tie.spec row-of-four-requires returns)

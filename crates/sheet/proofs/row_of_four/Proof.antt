@@ -1,7 +1,7 @@
 -- `sheet::row_of_four` meets its contract: no row below 1 or past the last, else its words.
 use mathlib.Core.Path.{_≡_, refl, sym, _∙_}
 use native.Mathlib.Omega.{arith}
-use Rattle.sheet.specs.Laid.{outside-low, outside-high, inside, four-none, four-some}
+use Rattle.sheet.specs.Laid.{outside-low, outside-high, inside, four-none, four-some, blank-words}
 use borrow.Author.Needs.{needs}
 use Rattle.sheet.proofs.row_of_four.Statement.{statement}
 use Rattle.sheet.proofs.row_of_four.Tie as tie
@@ -16,7 +16,7 @@ no-row-requires c κs = search needs
 
 -- src/lib.rt:97:9
 returns : tie.Need-returns
-returns c = c .no-row .ensures ∙ four-none (c .before .before .before .args .s .now) (c .before .before .before .args .at) (c .before .before .before .args .n) (c .before .before .before .args .r) (outside-low (c .before .before .before .args .n) (c .before .before .before .args .r) (omega arith))
+returns c = (c .no-row .ensures ∙ four-none (c .before .before .before .args .s .now) (c .before .before .before .args .at) (c .before .before .before .args .n) (c .before .before .before .args .r) (outside-low (c .before .before .before .args .n) (c .before .before .before .args .r) (omega arith)), blank-words (c .no-row .ensures))
 
 -- src/lib.rt:100:9
 no-row-requires-2 : tie.Need-no-row-requires-2
@@ -24,7 +24,7 @@ no-row-requires-2 c κs = search needs
 
 -- src/lib.rt:100:9
 returns-2 : tie.Need-returns-2
-returns-2 c = c .no-row2 .ensures ∙ four-none (c .before .before .before .before .args .s .now) (c .before .before .before .before .args .at) (c .before .before .before .before .args .n) (c .before .before .before .before .args .r) (outside-high (c .before .before .before .before .args .n) (c .before .before .before .before .args .r) (omega arith))
+returns-2 c = (c .no-row2 .ensures ∙ four-none (c .before .before .before .before .args .s .now) (c .before .before .before .before .args .at) (c .before .before .before .before .args .n) (c .before .before .before .before .args .r) (outside-high (c .before .before .before .before .args .n) (c .before .before .before .before .args .r) (omega arith)), blank-words (c .no-row2 .ensures))
 
 -- src/lib.rt:102:23
 sub-i : tie.Need-sub-i
@@ -72,7 +72,7 @@ word-at-requires-4 c κs = search needs
 
 -- src/lib.rt:92:1
 returns-3 : tie.Need-returns-3
-returns-3 c = four-some (c .before .before .before .before .before .before .before .args .s .now) (c .before .before .before .before .before .before .before .args .at) (c .before .before .before .before .before .before .before .args .n) (c .before .before .before .before .before .before .before .args .r) (inside (c .before .before .before .before .before .before .before .args .n) (c .before .before .before .before .before .before .before .args .r) (λ e. omega arith) (omega arith)) (c .before .before .before .word-at .ensures .0) (c .before .before .word-at2 .ensures .0) (c .before .word-at3 .ensures .0) (c .word-at4 .ensures .0)
+returns-3 c = (four-some (c .before .before .before .before .before .before .before .args .s .now) (c .before .before .before .before .before .before .before .args .at) (c .before .before .before .before .before .before .before .args .n) (c .before .before .before .before .before .before .before .args .r) (inside (c .before .before .before .before .before .before .before .args .n) (c .before .before .before .before .before .before .before .args .r) (λ e. omega arith) (omega arith)) (c .before .before .before .word-at .ensures .0) (c .before .before .word-at2 .ensures .0) (c .before .word-at3 .ensures .0) (c .word-at4 .ensures .0), record { kind = c .before .before .before .word-at .ensures .1; p = c .before .before .word-at2 .ensures .1; q = c .before .word-at3 .ensures .1; r = c .word-at4 .ensures .1 })
 
 pub row-of-four-spec : {M : Type 1} → statement M
 row-of-four-spec =

@@ -15,7 +15,7 @@ row-of-four-requires c κs = search needs
 
 -- src/lib.rt:134:1
 returns : tie.Need-returns
-returns c = c .row-of-four .ensures ∙ statement-table (c .before .before .pre) (c .before .before .args .r)
+returns c = (c .row-of-four .ensures .0 ∙ statement-table (c .before .before .pre) (c .before .before .args .r), c .row-of-four .ensures .1)
 
 pub statement-row-spec : {M : Type 1} → statement M
 statement-row-spec = tie.close (tie.spec row-of-four-requires returns)

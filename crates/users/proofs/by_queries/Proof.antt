@@ -44,7 +44,7 @@ loop-less c = omega arith
 
 -- src/lib.rt:162:5
 loop-again : tie.Need-loop-again Inv-loop μ-loop
-loop-again c = turn (λ r i. hits own r (queryUses (scriptOf (c .before .before .before .before .before .before .before .before .args .s .now) .queryRow i)) (scriptOf (c .before .before .before .before .before .before .before .before .args .s .now) .queryRow i)) (c .before .before .before .before .before .before .before .before .args .l .queries) (c .before .before .before .before .before .before .loop .i) (c .before .before .before .before .before .before .loop .inv) (c .before .before .before .before .if1 .taken) (by-row own queryUses (c .refer-own .ensures) (c .before .query-uses .ensures .uses) (c .before .before .before .query-row .ensures))
+loop-again c = turn (λ r i. hits own r (queryUses (scriptOf (c .before .before .before .before .before .before .before .before .args .s .now) .queryRow i)) (scriptOf (c .before .before .before .before .before .before .before .before .args .s .now) .queryRow i)) (c .before .before .before .before .before .before .before .before .args .l .queries) (c .before .before .before .before .before .before .loop .i) (c .before .before .before .before .before .before .loop .inv) (c .before .before .before .before .if1 .taken) (by-row own queryUses (c .refer-own .ensures) (c .before .query-uses .ensures .uses) (c .before .before .before .query-row .ensures .0))
 
 -- src/lib.rt:156:1
 returns : tie.Need-returns Inv-loop μ-loop

@@ -44,7 +44,7 @@ loop-less c = omega arith
 
 -- src/lib.rt:189:5
 loop-again : tie.Need-loop-again Inv-loop μ-loop
-loop-again c = turn (λ r i. hits own r ((statementUses (scriptOf (c .before .before .before .before .before .before .before .before .args .s .now) .procedureRow)) (scriptOf (c .before .before .before .before .before .before .before .before .args .s .now) .statementRow i)) (scriptOf (c .before .before .before .before .before .before .before .before .args .s .now) .statementRow i)) (c .before .before .before .before .before .before .before .before .args .l .statements) (c .before .before .before .before .before .before .loop .i) (c .before .before .before .before .before .before .loop .inv) (c .before .before .before .before .if1 .taken) (by-row own (statementUses (scriptOf (c .before .before .before .before .before .before .before .before .args .s .now) .procedureRow)) (c .refer-own .ensures) (c .before .statement-uses .ensures .uses) (c .before .before .before .statement-row .ensures))
+loop-again c = turn (λ r i. hits own r ((statementUses (scriptOf (c .before .before .before .before .before .before .before .before .args .s .now) .procedureRow)) (scriptOf (c .before .before .before .before .before .before .before .before .args .s .now) .statementRow i)) (scriptOf (c .before .before .before .before .before .before .before .before .args .s .now) .statementRow i)) (c .before .before .before .before .before .before .before .before .args .l .statements) (c .before .before .before .before .before .before .loop .i) (c .before .before .before .before .before .before .loop .inv) (c .before .before .before .before .if1 .taken) (by-row own (statementUses (scriptOf (c .before .before .before .before .before .before .before .before .args .s .now) .procedureRow)) (c .refer-own .ensures) (c .before .statement-uses .ensures .uses) (c .before .before .before .statement-row .ensures .0))
 
 -- src/lib.rt:183:1
 returns : tie.Need-returns Inv-loop μ-loop

@@ -33,7 +33,6 @@ use Rattle.ask.proofs.turn.Reads as turn-reads
 use Rattle.ask.proofs.turn.Kinds as turn-kinds
 use Rattle.ask.proofs.+choose+each+for_each+join+let_in+pick+query+same+tree+turn.Lts-turn as turn-lts
 use Rattle.ask.proofs.children.Reads as children-called
-use Rattle.ask.proofs.row_at.Reads as row-at-called
 use Rattle.ask.proofs.same_texts.Reads as same-texts-called
 use Rattle.rows.proofs.front.Reads as front-called
 use Rattle.rows.proofs.gather.Reads as gather-called
@@ -43,6 +42,7 @@ use Rattle.rows.proofs.make.Reads as make-called
 use Rattle.rows.proofs.picked.Reads as picked-called
 use Rattle.rows.proofs.push.Reads as push-called
 use Rattle.rows.proofs.row.Reads as row-called
+use Rattle.sheet.proofs.query_row.Reads as query-row-called
 use Rattle.walk.proofs.Purse.take.Reads as take-called
 use Rattle.walk.proofs.Scope.value.Reads as value-called
 use Rattle.walk.proofs.Scope.with.Reads as with-called
@@ -156,7 +156,7 @@ abbrev pub pick-claims : ℕ → pick-lts.Claims
 pick-claims t = (query-below t, query-reads.Post, picked-called.Asked, picked-called.Learnt)
 
 abbrev pub query-claims : ℕ → query-lts.Claims
-query-claims t = (take-called.Asked, take-called.Learnt, row-at-called.Asked, row-at-called.Learnt, join-below t, join-reads.Post, tree-below t, tree-reads.Post, make-called.Asked, make-called.Learnt, value-called.Asked, value-called.Learnt, let-in-below t, let-in-reads.Post, choose-below t, choose-reads.Post, same-below t, same-reads.Post, children-called.Asked, children-called.Learnt, pick-below t, pick-reads.Post, for-each-below t, for-each-reads.Post)
+query-claims t = (take-called.Asked, take-called.Learnt, query-row-called.Asked, query-row-called.Learnt, join-below t, join-reads.Post, tree-below t, tree-reads.Post, make-called.Asked, make-called.Learnt, value-called.Asked, value-called.Learnt, let-in-below t, let-in-reads.Post, choose-below t, choose-reads.Post, same-below t, same-reads.Post, children-called.Asked, children-called.Learnt, pick-below t, pick-reads.Post, for-each-below t, for-each-reads.Post)
 
 abbrev pub same-claims : ℕ → same-lts.Claims
 same-claims t = (query-below t, query-reads.Post, same-texts-called.Asked, same-texts-called.Learnt)
