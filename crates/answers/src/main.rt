@@ -1,4 +1,8 @@
-// The answers to the bundle on standard input. Two arguments, lent working and result rows, are for the questions to come.
+// The answers to the bundle on standard input. Two optional arguments: how many working and result rows are lent to its run; without them as many as `apply` lends.
 fn main() {
-    tell::answers(0);
+    tell::answers(
+        0,
+        tell::rows_argument(1, 6144),
+        tell::rows_argument(2, 8192),
+    );
 }

@@ -1,10 +1,18 @@
-// The answers to a bundle, printed a line each in the form that the second program prints: `read N`, then `fit ROW N A B` for each type row.
+// The answers to a bundle, printed a line each in the form that the second program prints: `read N`, then `fit ROW N A B` for each type row, then `run N UNITS A B ROOT` with the result's rows.
 use bundle::Opened;
+use desk::Ran;
 use fit::Answer;
+ghost use mathlib.Core.Path.{_≡_};
+ghost use Prim.Native.Nat.{_*_, _<_, _≤_};
+ghost use lib.ListN.{length};
 
-fn field(x: usize) {
-    io::write_all(1, b" ");
+fn number(x: usize) {
     io::print_decimal(1, x as u64);
+}
+
+pub fn field(x: usize) {
+    io::write_all(1, b" ");
+    number(x);
 }
 
 fn read_line(n: usize) {
@@ -41,22 +49,142 @@ fn fit_answers(s: &[u8]) {
     }
 }
 
-fn sheet_answers(s: &[u8]) {
+fn run_line(n: usize, units: usize, a: usize, b: usize, root: usize) {
+    io::write_all(1, b"run");
+    field(n);
+    field(units);
+    field(a);
+    field(b);
+    field(root);
+    io::write_all(1, b"\n");
+}
+
+fn row_line(result: &[u8], r: usize)
+    requires { ⌜ (0 < r) × (r < 65536) ⌝ }
+{
+    let c = rows::row(result, r);
+    number(r);
+    field(c.kind as usize);
+    field(c.p);
+    field(c.q);
+    field(c.r);
+    io::write_all(1, b"\n");
+}
+
+fn row_lines(result: &[u8], root: usize)
+    requires { ⌜ root < 65536 ⌝ }
+{
+    let mut r = 1;
+    while r <= root {
+        row_line(result, r);
+        r += 1;
+    }
+}
+
+fn ran_line(answer: Ran) {
+    match answer {
+        Ran::Done { units, root } => run_line(0, units, 0, 0, root),
+        Ran::Shape => run_line(2, 0, 0, 0, 0),
+        Ran::Barren(x) => run_line(3, 0, x, 0, 0),
+        Ran::Tie(t) => run_line(4, 0, t.row, t.rival, 0),
+        Ran::Fuel(units) => run_line(5, units, 0, 0, 0),
+        Ran::Depth(units) => run_line(6, units, 0, 0, 0),
+        Ran::Stuck { row, flag, units } => run_line(11, units, row, flag as usize, 0),
+        Ran::Scratch => run_line(12, 0, 0, 0, 0),
+        Ran::Room(units) => run_line(13, units, 0, 0, 0),
+    }
+}
+
+fn run_answer(s: &[u8], work: &mut [u8], result: &mut [u8]) {
+    let answer = desk::run(s, work, result);
+    ran_line(answer);
+    if let Ran::Done { units: _, root } = answer {
+        row_lines(result, root);
+    }
+}
+
+// The bytes of so many rows, of those that there are.
+fn lent(rows: usize, most: usize) -> usize
+    requires { ⌜ most ≤ 65536 ⌝ }
+    ensures { λ r. ⌜ r ≤ 8 * most ⌝ }
+{
+    if rows < most { 8 * rows } else { 8 * most }
+}
+
+// No run needs more than 6,144 working rows.
+fn working_rows() -> [u8; 49152]
+    ensures { λ r. ⌜ 49152 ≡ length r ⌝ }
+{
+    [0; 49152]
+}
+
+// No more than 65,535 result rows count.
+fn result_rows() -> [u8; 524288]
+    ensures { λ r. ⌜ 524288 ≡ length r ⌝ }
+{
+    [0; 524288]
+}
+
+fn run_answers(s: &[u8], work: usize, result: usize) {
+    let mut w = working_rows();
+    let mut r = result_rows();
+    let m = lent(work, 6144);
+    let n = lent(result, 65536);
+    run_answer(s, &mut w[..m], &mut r[..n]);
+}
+
+fn sheet_answers(s: &[u8], work: usize, result: usize) {
     if shape::shapely(s) {
         read_line(0);
         fit_answers(s);
+        run_answers(s, work, result);
     } else {
         read_line(2);
     }
 }
 
-// Reads a bundle from the descriptor, and answers.
-pub fn answers(fd: i32) {
+// Reads a bundle from the descriptor, and answers; so many rows are lent to its run.
+pub fn answers(fd: i32, work: usize, result: usize) {
     let mut input = [0u8; 45057];
     let n = io::read_full(fd, &mut input);
     let mut payload = [0u8; 44704];
     match bundle::open(&input[..n], &mut payload) {
         Opened::Refused => read_line(1),
-        Opened::Sheet(need) => sheet_answers(&payload[..need]),
+        Opened::Sheet(need) => sheet_answers(&payload[..need], work, result),
     }
+}
+
+// A digit more behind a number; what is past a million stays there.
+fn digit(x: usize, byte: u8) -> usize {
+    if byte < 48 {
+        return x;
+    }
+    if 57 < byte {
+        return x;
+    }
+    if 1000000 < x {
+        return x;
+    }
+    10 * x + (byte - 48) as usize
+}
+
+// The number that the bytes write in decimal.
+fn decimal(text: &[u8]) -> usize {
+    let mut x = 0;
+    let mut i = 0;
+    while i < text.len() {
+        x = digit(x, text[i]);
+        i += 1;
+    }
+    x
+}
+
+// The rows that argument `i` says, or `other` where there is none.
+pub fn rows_argument(i: usize, other: usize) -> usize {
+    let mut text = io::buffer();
+    let n = os::arg(i, &mut text);
+    if os::errno() != 0 {
+        return other;
+    }
+    decimal(&text[..n])
 }

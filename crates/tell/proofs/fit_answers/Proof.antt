@@ -4,10 +4,6 @@ use native.Mathlib.Omega.{arith}
 use borrow.Author.Needs.{needs}
 use Rattle.tell.proofs.fit_answers.Statement.{statement}
 use Rattle.tell.proofs.fit_answers.Tie as tie
-use Rattle.tell.proofs.fit_answers.Reads as reads
-use Rattle.tell.proofs.fit_answers.Lts as lts
-use Rattle.sheet.proofs.lay_out.Reads as lay-out-reads
-use Rattle.tell.proofs.fit_answer.Reads as fit-answer-reads
 
 abbrev Inv-loop : tie.InvT-loop
 Inv-loop s l row₀ row = Unit {0}

@@ -1,0 +1,154 @@
+// The run, whole: the order of refusals, and the rows left behind. Working rows are zeroed in one place, after the answer is known.
+use sheet::Layout;
+use ties::Soundness;
+use ties::Tied;
+use walk::Answer;
+use walk::Purse;
+use walk::Scope;
+use walk::Stop;
+ghost use mathlib.Core.Path.{_≡_};
+ghost use mathlib.Core.Bool.{true};
+ghost use mathlib.Core.List.{List};
+ghost use Prim.Native.Nat.{ℕ, _+_, _*_, _≤_, _<_};
+ghost use lib.ListN.{length};
+ghost use Rattle.meaning.specs.Words.{rowsLent, zeroed};
+ghost use Rattle.meaning.specs.Sheet.{sheetOf};
+ghost use Rattle.meaning.specs.Shape.{shapely};
+ghost use Rattle.meaning.specs.Run.{run-walk};
+ghost use Rattle.meaning.specs.Reply.{Loads, done, RunReply};
+ghost use Rattle.meaning.specs.Laws.Rows.{LowRows};
+ghost use Rattle.meaning.specs.Theorems.ReadBack.{lentRow};
+ghost use Rattle.sheet.specs.Laid.{Laid};
+ghost use Rattle.walk.specs.Meets.{Stopped};
+ghost use Rattle.desk.specs.Said.{ranReply, Says};
+ghost use Rattle.desk.specs.Load.{Loaded};
+ghost use Rattle.desk.specs.Ends.{MainEnds, leftOf, Begun, Gave};
+
+// What a run says: its refusal or Done, with its units and the result's root.
+pub enum Ran {
+    Done { units: usize, root: usize },
+    Shape,
+    Barren(usize),
+    Tie(Tied),
+    Fuel(usize),
+    Depth(usize),
+    Stuck { row: usize, flag: u8, units: usize },
+    Scratch,
+    Room(usize),
+}
+
+// The rows that a lent slice counts for.
+fn rows_lent(b: &[u8]) -> usize
+    ensures { λ r. ⌜ r ≡ rowsLent (now (b .entry)) ⌝ }
+{
+    let n = b.len() / 8;
+    if n < 65535 { n } else { 65535 }
+}
+
+// The forest's rows, copied to the front of the working rows.
+fn load(s: &[u8], l: Layout, work: &mut [u8])
+    requires { ⌜ (shapely (now s) ≡ true) × (Laid (now s) l) × (8 * l .rows ≤ length (now work)) ⌝ }
+    ensures { λ _. ⌜ Loaded (now (s .entry)) (now (work .exit)) ⌝ }
+{
+    let from = 2 * l.rows_at;
+    let to = from + 8 * l.rows;
+    bytes::copy(&s[from..to], work);
+}
+
+// Main, walked on the sheet's forest.
+fn walk_main(s: &[u8], l: Layout, work: &mut [u8]) -> Answer
+    requires { ⌜ (shapely (now s) ≡ true) × (Laid (now s) l) × (8 * (l .rows + l .«run_fuel») ≤ length (now work)) ⌝ }
+    ensures { λ a. ⌜ MainEnds (now (s .entry)) (now (work .exit)) a ⌝ }
+{
+    load(s, l, work);
+    let purse = Purse { left: l.run_fuel };
+    edit::statement(s, l, work, Scope::new(), l.rows, l.main, l.root, 200, purse)
+}
+
+// The units that a purse no longer holds.
+fn spent(fuel: usize, purse: Purse) -> usize
+    requires { ⌜ purse .left ≤ fuel ⌝ }
+    ensures { λ r. ⌜ r + purse .left ≡ fuel ⌝ }
+{
+    fuel - purse.left
+}
+
+// How an end that is no forest is called.
+fn stopped(why: Stop, fuel: usize) -> Ran
+    requires { ⌜ leftOf why ≤ fuel ⌝ }
+    ensures { λ r. ⌜ ((s lent result : List ℕ) → Begun s lent → fuel ≡ sheetOf s .runFuel → Stopped (run-walk (sheetOf s)) (sheetOf s .runFuel) why → Says s lent result r result) ⌝ }
+{
+    match why {
+        Stop::Fuel => Ran::Fuel(fuel),
+        Stop::Depth(purse) => Ran::Depth(spent(fuel, purse)),
+        Stop::Stuck(row, flag, purse) => Ran::Stuck {
+            row,
+            flag,
+            units: spent(fuel, purse),
+        },
+    }
+}
+
+// The forest at `root`, handed out: Room where the result rows are too few.
+fn finish(work: &[u8], used: usize, root: usize, units: usize, result: &mut [u8]) -> Ran
+    requires { ⌜ (root ≤ used) × (used ≤ 6144) × (LowRows (lentRow (now work)) used) ⌝ }
+    ensures { λ r. ⌜ ((s lent : List ℕ) → Gave s lent (now (work .entry)) root units → Says s lent (now (result .entry)) r (now (result .exit))) ⌝ }
+{
+    let mut sizes = [0u32; 6145];
+    out::sizes(work, used, &mut sizes);
+    let n = sizes[root] as usize;
+    if rows_lent(result) < n {
+        return Ran::Room(units);
+    }
+    out::write_out(work, &sizes, root, result);
+    Ran::Done { units, root: n }
+}
+
+// A sound sheet's run: Scratch first, then the walk, Room last.
+fn walked(s: &[u8], l: Layout, work: &mut [u8], result: &mut [u8]) -> Ran
+    requires { ⌜ (shapely (now s) ≡ true) × (Laid (now s) l) × (Loads (now s) done) ⌝ }
+    ensures { λ r. ⌜ Says (now (s .entry)) (now (work .entry)) (now (result .entry)) r (now (result .exit)) ⌝ }
+{
+    if rows_lent(work) < l.rows + l.run_fuel {
+        return Ran::Scratch;
+    }
+    match walk_main(s, l, work) {
+        Answer::Not(why) => stopped(why, l.run_fuel),
+        Answer::Done { root, used, purse } => {
+            let units = spent(l.run_fuel, purse);
+            finish(work, used, root, units, result)
+        }
+    }
+}
+
+// Refusals 2, 3 and 4, then the run.
+fn judged(s: &[u8], work: &mut [u8], result: &mut [u8]) -> Ran
+    ensures { λ r. ⌜ Says (now (s .entry)) (now (work .entry)) (now (result .entry)) r (now (result .exit)) ⌝ }
+{
+    if !shape::shapely(s) {
+        return Ran::Shape;
+    }
+    let l = sheet::lay_out(s);
+    match ties::sound(s, l) {
+        Soundness::Barren(x) => Ran::Barren(x),
+        Soundness::Tie(t) => Ran::Tie(t),
+        Soundness::Done => walked(s, l, work, result),
+    }
+}
+
+// Every answer goes through here: the working rows are all zero after every call.
+fn clear(work: &mut [u8], answer: Ran) -> Ran
+    ensures same { λ r. ⌜ r ≡ answer ⌝ }
+    ensures zero { λ _. ⌜ now (work .exit) ≡ zeroed (now (work .entry)) ⌝ }
+{
+    words::zero(work);
+    answer
+}
+
+// The edited forest, in the result rows.
+pub fn run(s: &[u8], work: &mut [u8], result: &mut [u8]) -> Ran
+    ensures { λ r. ⌜ RunReply (now (s .entry)) (now (work .entry)) (now (result .entry)) (ranReply r (now (result .exit)) (now (work .exit))) ⌝ }
+{
+    let answer = judged(s, work, result);
+    clear(work, answer)
+}
