@@ -19,6 +19,7 @@ use Rattle.meaning.specs.Laws.Tests.{in-table, table-low, table-high, every-at,
 use Rattle.meaning.specs.Laws.Models.{any-word, first-word, follows-word, same-head-says}
 use Rattle.places.specs.Tables.{modelOf, isRoot}
 use Rattle.places.specs.Firsts.{model-row}
+use Rattle.places.specs.Sheets.{shaped-rows}
 use Rattle.meaning.specs.Laws.Wired.{has}
 use Rattle.meaning.specs.Laws.Apart.{Side, side-lower, word-has, model-placed, model-below, shaped-lower}
 
@@ -164,7 +165,7 @@ module _ (s : List ℕ) (e : shapely s ≡ true) where
   inner-row (TypeRow.star p) r i e h = record { before = []; behind = []; within = λ u x. rw e (w-more (rw (← h) at x) w-none) }
 
   inner : (r i : ℕ) → Side (typeForm (S .typeRow i)) r → Inner r i
-  inner r i x = inner-row (typeForm (S .typeRow i)) r i (model-row s e i) x
+  inner r i x = inner-row (typeForm (S .typeRow i)) r i (model-row (shaped-rows s e) i) x
 
   regroup : (a b u c d : List ℕ) → (a ++ b) ++ (u ++ (c ++ d)) ≡ a ++ ((b ++ (u ++ c)) ++ d)
   regroup a b u c d = simp append-assoc

@@ -9,7 +9,7 @@ use lib.Dec.{eqb}
 use lib.ListN.{set, replicate, length-replicate}
 use borrow.Author.Tests.{eq-eqb, lt-ltb}
 use Rattle.meaning.specs.Tests.{inTable}
-use Rattle.meaning.specs.Sheet.{scriptOf, groveOf, types-of}
+use Rattle.meaning.specs.Sheet.{row3, scriptOf, groveOf, types-of}
 use Rattle.meaning.specs.Forest.{forestOf}
 use Rattle.meaning.specs.Types.{Of, declared, namesIn}
 use Rattle.meaning.specs.Shape.{shapely}
@@ -23,7 +23,8 @@ use Rattle.barren.specs.Flags.{flag, flag-set}
 use Rattle.barren.specs.Rows.{kind-in, label-row, few-types}
 use Rattle.sheet.specs.Laid.{Laid, outside-low, outside-high}
 use Rattle.sheet.specs.declared.Layout.{Layout}
-use Rattle.places.specs.Users.{rooted-free, told-free}
+use Rattle.places.specs.Sheets.{laid-tables, laid-free, laid-wires}
+use Rattle.places.specs.Users.{told-free}
 use Rattle.places.specs.Tables.{modelOf, setOf, isRoot, Tables, Wires, Rooted, Free}
 use Rattle.ties.specs.Classes.{Classes}
 use Rattle.ties.specs.Heads.{actingAt}
@@ -40,7 +41,7 @@ types-is laid = laid .types
 
 module _ (s : List ℕ) (e : shapely s ≡ true) where
   -- the sets of a table that is wired for a root are what may stand behind its places
-  nexts : {root t : List ℕ} {top : ℕ} → Wires s root t top → (r : ℕ) → 1 ≤ r → r ≤ top → flag root r ≡ true → Nexts t (modelOf s r)
+  nexts : {root t : List ℕ} {top : ℕ} → Wires (scriptOf s .typeRow) root t top → (r : ℕ) → 1 ≤ r → r ≤ top → flag root r ≡ true → Nexts t (modelOf s r)
   nexts {t = t} w r p q f a h b l = rw (lt-ltb b 576 l) at (wired-next (setOf t) (modelOf s r) ends (w .wired r p q f) a h b)
 
   content-asked : (i : ℕ) → scriptOf s .typeRow i .kind ≡ 4 → isRoot s (scriptOf s .typeRow i .q) ≡ true
@@ -51,14 +52,14 @@ module _ (s : List ℕ) (e : shapely s ≡ true) where
       (and-both (eqb (scriptOf s .typeRow i .kind) 4) (eqb q q) (eq-eqb (scriptOf s .typeRow i .kind) 4 k) (eq-eqb q q refl)))
 
   -- the content of a row of kind 4: a root, and a row of the table
-  module _ {l : Layout} (laid : Laid s l) {root behind : List ℕ} (rooted : Rooted s root) (wires : Wires s root behind (l .types)) where
+  module _ {l : Layout} (laid : Laid s l) {root behind : List ℕ} (rooted : Rooted s root) (wires : Wires (row3 s (l .«types_at») (l .types)) root behind (l .types)) where
     content-nexts : (i : ℕ) → scriptOf s .typeRow i .kind ≡ 4 → Nexts behind (modelOf s (scriptOf s .typeRow i .q))
     content-nexts i k =
         let h = kind-in s i 3 k in
         let x = label-row s e i h k .1 in
         let q = scriptOf s .typeRow i .q in
         let u : q < 513 = omega (arith, x .lower, table-high (scriptOf s .types) i h, few-types s e) in
-        nexts wires q (x .low) (omega (arith, x .lower, table-high (scriptOf s .types) i h, types-is laid)) (rooted .at q u ∙ content-asked i k)
+        nexts (laid-wires laid wires) q (x .low) (omega (arith, x .lower, table-high (scriptOf s .types) i h, types-is laid)) (rooted .at q u ∙ content-asked i k)
 
     contents : (a : ℕ) → actingAt s a .kind ≡ 4 → Nexts behind (modelOf s (actingAt s a .q))
     contents a = go (eqb (scriptOf s .typeRow a .kind) 8)
@@ -68,19 +69,15 @@ module _ (s : List ℕ) (e : shapely s ≡ true) where
         go true k = content-nexts (scriptOf s .nameRow (scriptOf s .typeRow a .p)) k
         go false k = content-nexts a k
 
-    pub ready : {null begin class same : List ℕ} → Untied (scriptOf s) → Tables s null begin → Classes s class same → Ready s l null begin behind class same
+    pub ready : {null begin class same : List ℕ} → Untied (scriptOf s) → Tables (row3 s (l .«types_at») (l .types)) (l .types) null begin → Classes s class same → Ready s l null begin behind class same
     ready untied tables classes = record {
       laid = laid;
       shaped = e;
       untied = untied;
-      tables = tables;
+      tables = laid-tables laid tables;
       contents = contents;
       classes = classes;
     }
-
-  -- no side of a row is a root
-  pub roots-free : {l : Layout} {root : List ℕ} → Laid s l → Rooted s root → Free s root (l .types)
-  roots-free laid rooted i j p q x = rooted-free s e rooted i j p (omega (arith, types-is laid)) x
 
   -- the told row alone: no side of a lower row is it
   module _ (told : ℕ) (t : inTable (scriptOf s .types) told ≡ true) where
@@ -93,14 +90,14 @@ module _ (s : List ℕ) (e : shapely s ≡ true) where
     pub told-low : {l : Layout} → Laid s l → told ≤ l .types
     told-low laid = omega (arith, table-high (scriptOf s .types) told t, types-is laid)
 
-    pub told-alone : Free s (set (replicate 513 0) told 1) told
-    told-alone = told-free s e told (table-high (scriptOf s .types) told t)
+    pub told-alone : {l : Layout} → Laid s l → Free (row3 s (l .«types_at») (l .types)) (set (replicate 513 0) told 1) told
+    told-alone laid = laid-free laid (set (replicate 513 0) told 1) told (told-free s e told (table-high (scriptOf s .types) told t))
 
-    pub told-walks : {l : Layout} {next : List ℕ} → Laid s l → Wires s (set (replicate 513 0) told 1) next told → Walks s (l .root) told next
+    pub told-walks : {l : Layout} {next : List ℕ} → Laid s l → Wires (row3 s (l .«types_at») (l .types)) (set (replicate 513 0) told 1) next told → Walks s (l .root) told next
     told-walks laid w = record {
       is-tree = omega (arith, root-row s e, root-is laid);
       is-type = t;
-      nexts = nexts w told (table-low (scriptOf s .types) told t) (omega arith) told-flag;
+      nexts = nexts (laid-wires laid w) told (table-low (scriptOf s .types) told t) (omega arith) told-flag;
     }
 
     pub of-type : {l : Layout} (b : Bool) → Laid s l → b ≡ true ↔ Inside s (l .root) told → b ≡ true ↔ Of (namesIn (scriptOf s)) (declared (scriptOf s) told) (forestOf (groveOf s))

@@ -52,7 +52,7 @@ module _ (s : List ℕ) where
     pub laid : Laid s l
     pub shaped : shapely s ≡ true
     pub untied : Untied (scriptOf s)
-    pub tables : Tables s null first-sets
+    pub tables : Tables (scriptOf s .typeRow) (scriptOf s .types) null first-sets
     pub contents : (a : ℕ) → actingAt s a .kind ≡ 4 → Nexts behind (modelOf s (actingAt s a .q))
     pub classes : Classes s class same
 

@@ -10,20 +10,17 @@ use lib.Dec.{eqb, ltb}
 use lib.ListN.{length, set, length-set}
 use borrow.Author.Tests.{ltb-true, ltb-false}
 use Rattle.meaning.specs.Tests.{inTable}
-use Rattle.meaning.specs.Sheet.{Cells, scriptOf}
+use Rattle.meaning.specs.Sheet.{Cells}
 use Rattle.meaning.specs.Kinds.{TypeRow, typeForm}
-use Rattle.meaning.specs.Shape.{shapely}
 use Rattle.meaning.specs.Places.{Model, modelForm, nullable, first}
 use Rattle.meaning.specs.Laws.Bools.{or-left, or-right, or-cases, and-right, either}
 use Rattle.meaning.specs.Laws.Tests.{table-low, table-high}
 use Rattle.meaning.specs.Laws.Wired.{has, or-false}
-use Rattle.meaning.specs.Laws.Apart.{View, v-none, v-empty, v-text, v-bool, v-label, v-seq, v-choice, v-star, v-name, view, modelAt-row, shaped-lower, model-below}
-use Rattle.sheet.specs.declared.Layout.{Layout}
-use Rattle.sheet.specs.Laid.{Laid}
+use Rattle.meaning.specs.Laws.Apart.{View, v-none, v-empty, v-text, v-bool, v-label, v-seq, v-choice, v-star, v-name, view, Side, side-lower, modelAt-row, model-below}
 use Rattle.bits.specs.Sets.{inSet, Added, United}
 use Rattle.barren.specs.Flags.{flag, flag-set, flag-kept}
-use Rattle.barren.specs.Rows.{Part, seq-row, choice-row, star-row, few-types}
-use Rattle.places.specs.Tables.{modelOf, formAt, setOf, Clear, Nulls, Firsts, Tables}
+use Rattle.barren.specs.Rows.{Part}
+use Rattle.places.specs.Tables.{rowForm, rowModel, Rows, setOf, Clear, Nulls, Firsts, Tables}
 
 -- rows of kind 2, 3, 4 and 8 are places
 abbrev pub PlaceKind : ℕ → Type 0
@@ -47,42 +44,62 @@ first-has (Model.choice m n) a e = elim (or-cases (first m a) (first n a) e) [
 ]
 first-has (Model.star m) a e = first-has m a e
 
-module _ (s : List ℕ) (e : shapely s ≡ true) where
-  pub model-row : (i : ℕ) → modelOf s i ≡ modelForm (formAt s i) i (modelOf s)
-  model-row i = modelAt-row (formAt s) (shaped-lower s e) i
+module _ {row : ℕ → Cells} {n : ℕ} (R : Rows row n) where
+  pub few-rows : {i : ℕ} → i ≤ n → i ≤ 512
+  few-rows h = omega (arith, R .few)
+
+  pub model-row : (i : ℕ) → rowModel row i ≡ modelForm (rowForm row i) i (rowModel row)
+  model-row i = modelAt-row (rowForm row) (R .lower) i
+
+  -- a side is a part
+  pub side-part : (i j : ℕ) → Side (rowForm row i) j → Part i j
+  side-part i j x = record { low = R .low i j x; lower = side-lower (rowForm row i) i j (R .lower i) x }
+
+  -- kinds 5 and 6: two parts; kind 7: one
+  pub seq-row : (i : ℕ) → row i .kind ≡ 5 → Part i (row i .p) × Part i (row i .q)
+  unfolding Side
+  seq-row i k = (side-part i (row i .p) (rw k (inl refl)), side-part i (row i .q) (rw k (inr refl)))
+
+  pub choice-row : (i : ℕ) → row i .kind ≡ 6 → Part i (row i .p) × Part i (row i .q)
+  unfolding Side
+  choice-row i k = (side-part i (row i .p) (rw k (inl refl)), side-part i (row i .q) (rw k (inr refl)))
+
+  pub star-row : (i : ℕ) → row i .kind ≡ 7 → Part i (row i .p)
+  unfolding Side
+  star-row i k = side-part i (row i .p) (rw k refl)
 
   -- a place is at most the row of its model
-  pub first-below : (r b : ℕ) → r < b → first (modelOf s r) b ≡ false
-  first-below r b l = elim (either (first (modelOf s r) b)) [
-    | inl h ↦ absurd (omega (arith, model-below (scriptOf s .typeRow) (scriptOf s .nameRow) (shaped-lower s e) r b (first-has (modelOf s r) b h)))
+  pub first-below : (r b : ℕ) → r < b → first (rowModel row r) b ≡ false
+  first-below r b l = elim (either (first (rowModel row r) b)) [
+    | inl h ↦ absurd (omega (arith, model-below row (λ x. 0) (R .lower) r b (first-has (rowModel row r) b h)))
     | inr h ↦ h
   ]
 
-  module _ (i : ℕ) (h : inTable (scriptOf s .types) i ≡ true) (c : Cells) (r : c ≡ scriptOf s .typeRow i) where
+  module _ (i : ℕ) (c : Cells) (r : c ≡ row i) where
     -- ---- may row i be empty
 
-    module _ {null : List ℕ} (n : Nulls s null i) where
-      pub seq-null : c .kind ≡ 5 → flag null (c .p) && flag null (c .q) ≡ nullable (modelOf s i)
+    module _ {null : List ℕ} (N : Nulls row null i) where
+      pub seq-null : c .kind ≡ 5 → flag null (c .p) && flag null (c .q) ≡ nullable (rowModel row i)
       unfolding nullable modelForm
-      seq-null k = let k′ = rw r at k in let p = seq-row s e i h k′ in rw (r, n .at _ (p .0 .low) (p .0 .lower), n .at _ (p .1 .low) (p .1 .lower)) (sym (ap nullable (model-row i) ∙ rw k′))
+      seq-null k = let k′ = rw r at k in let p = seq-row i k′ in rw (r, N .at _ (p .0 .low) (p .0 .lower), N .at _ (p .1 .low) (p .1 .lower)) (sym (ap nullable (model-row i) ∙ rw k′))
 
-      pub choice-null : c .kind ≡ 6 → flag null (c .p) || flag null (c .q) ≡ nullable (modelOf s i)
+      pub choice-null : c .kind ≡ 6 → flag null (c .p) || flag null (c .q) ≡ nullable (rowModel row i)
       unfolding nullable modelForm
-      choice-null k = let k′ = rw r at k in let p = choice-row s e i h k′ in rw (r, n .at _ (p .0 .low) (p .0 .lower), n .at _ (p .1 .low) (p .1 .lower)) (sym (ap nullable (model-row i) ∙ rw k′))
+      choice-null k = let k′ = rw r at k in let p = choice-row i k′ in rw (r, N .at _ (p .0 .low) (p .0 .lower), N .at _ (p .1 .low) (p .1 .lower)) (sym (ap nullable (model-row i) ∙ rw k′))
 
     -- rows of kind 2, 3, 4 and 8 are places
-    pub place-null : PlaceKind (c .kind) → false ≡ nullable (modelOf s i)
+    pub place-null : PlaceKind (c .kind) → false ≡ nullable (rowModel row i)
     unfolding nullable modelForm
     place-null (inl k) = let k′ = rw r at k in sym (ap nullable (model-row i) ∙ rw k′)
     place-null (inr (inl k)) = let k′ = rw r at k in sym (ap nullable (model-row i) ∙ rw k′)
     place-null (inr (inr (inl k))) = let k′ = rw r at k in sym (ap nullable (model-row i) ∙ rw k′)
     place-null (inr (inr (inr k))) = let k′ = rw r at k in sym (ap nullable (model-row i) ∙ rw k′)
 
-    pub other-null : (c .kind ≡ 2 → ⊥) → (c .kind ≡ 3 → ⊥) → (c .kind ≡ 4 → ⊥) → (c .kind ≡ 8 → ⊥) → (c .kind ≡ 5 → ⊥) → (c .kind ≡ 6 → ⊥) → true ≡ nullable (modelOf s i)
+    pub other-null : (c .kind ≡ 2 → ⊥) → (c .kind ≡ 3 → ⊥) → (c .kind ≡ 4 → ⊥) → (c .kind ≡ 8 → ⊥) → (c .kind ≡ 5 → ⊥) → (c .kind ≡ 6 → ⊥) → true ≡ nullable (rowModel row i)
     unfolding nullable modelForm
-    other-null x2 x3 x4 x8 x5 x6 = sym (ap nullable (model-row i) ∙ ap (λ x. nullable (modelForm (typeForm x) i (modelOf s))) (sym r) ∙ go (view c))
+    other-null x2 x3 x4 x8 x5 x6 = sym (ap nullable (model-row i) ∙ ap (λ x. nullable (modelForm (typeForm x) i (rowModel row))) (sym r) ∙ go (view c))
       where
-        go : {t : TypeRow} → View c t → nullable (modelForm t i (modelOf s)) ≡ true
+        go : {t : TypeRow} → View c t → nullable (modelForm t i (rowModel row)) ≡ true
         go v-none = refl
         go v-empty = refl
         go (v-text k) = absurd (x2 k)
@@ -95,62 +112,62 @@ module _ (s : List ℕ) (e : shapely s ≡ true) where
 
     -- ---- what may stand first at row i
 
-    module _ {t : List ℕ} (f : Firsts s t i) where
-      more : (new : List ℕ) → length new ≡ length t → ((b : ℕ) → b < 576 → inSet new i b ≡ first (modelOf s i) b) → ((k b : ℕ) → (k ≡ i → ⊥) → b < 576 → inSet new k b ≡ inSet t k b) → Firsts s new (i + 1)
+    module _ {t : List ℕ} (f : Firsts row t i) where
+      more : (new : List ℕ) → length new ≡ length t → ((b : ℕ) → b < 576 → inSet new i b ≡ first (rowModel row i) b) → ((k b : ℕ) → (k ≡ i → ⊥) → b < 576 → inSet new k b ≡ inSet t k b) → Firsts row new (i + 1)
       more new z here others = record {
         size = z ∙ f .size;
         at = λ j p q b l. elim (ℕ-discrete j i) [ yes d ↦ rw d (here b l) | no d ↦ others j b d l ∙ f .at j p (omega arith) b l ];
         none = λ j p b l. others j b (λ d. omega arith) l ∙ f .none j (omega arith) b l;
       }
 
-      pub place-first : PlaceKind (c .kind) → {new : List ℕ} → Added t new i i → Firsts s new (i + 1)
+      pub place-first : PlaceKind (c .kind) → {new : List ℕ} → Added t new i i → Firsts row new (i + 1)
       unfolding first modelForm
       place-first k {new} a = more new (a .size) (λ b l. a .into b l ∙ rw (f .none i (omega arith) b l) (go k b)) (a .others)
         where
-          go : PlaceKind (c .kind) → (b : ℕ) → eqb i b ≡ first (modelOf s i) b
+          go : PlaceKind (c .kind) → (b : ℕ) → eqb i b ≡ first (rowModel row i) b
           go (inl k) b = let k′ = rw r at k in sym (ap (λ m. first m b) (model-row i) ∙ rw k′)
           go (inr (inl k)) b = let k′ = rw r at k in sym (ap (λ m. first m b) (model-row i) ∙ rw k′)
           go (inr (inr (inl k))) b = let k′ = rw r at k in sym (ap (λ m. first m b) (model-row i) ∙ rw k′)
           go (inr (inr (inr k))) b = let k′ = rw r at k in sym (ap (λ m. first m b) (model-row i) ∙ rw k′)
 
       -- one part of row i, then another
-      one : (w : ℕ) → Part i w → {new : List ℕ} → United t new i t w → (b : ℕ) → b < 576 → inSet new i b ≡ first (modelOf s w) b
+      one : (w : ℕ) → Part i w → {new : List ℕ} → United t new i t w → (b : ℕ) → b < 576 → inSet new i b ≡ first (rowModel row w) b
       one w p u b l = u .into b l ∙ rw (f .none i (omega arith) b l) (f .at w (p .low) (p .lower) b l)
 
-      two : (w v : ℕ) → Part i w → Part i v → {mid new : List ℕ} → United t mid i t w → United mid new i mid v → (b : ℕ) → b < 576 → inSet new i b ≡ first (modelOf s w) b || first (modelOf s v) b
+      two : (w v : ℕ) → Part i w → Part i v → {mid new : List ℕ} → United t mid i t w → United mid new i mid v → (b : ℕ) → b < 576 → inSet new i b ≡ first (rowModel row w) b || first (rowModel row v) b
       two w v p o u x b l = x .into b l ∙ rw (one w p u b l, u .others v b (λ d. omega (arith, o .lower)) l, f .at v (o .low) (o .lower) b l)
 
-      pub seq-first : c .kind ≡ 5 → {null : List ℕ} → Nulls s null i → flag null (c .p) ≡ true → {mid new : List ℕ} → United t mid i t (c .p) → United mid new i mid (c .q) → Firsts s new (i + 1)
+      pub seq-first : c .kind ≡ 5 → {null : List ℕ} → Nulls row null i → flag null (c .p) ≡ true → {mid new : List ℕ} → United t mid i t (c .p) → United mid new i mid (c .q) → Firsts row new (i + 1)
       unfolding first modelForm
       seq-first k n z {mid} {new} u x =
-          let k′ = rw r at k in let p = seq-row s e i h k′ in
+          let k′ = rw r at k in let p = seq-row i k′ in
           let z′ = sym (n .at _ (p .0 .low) (p .0 .lower)) ∙ (rw r at z) in
           more new (x .size ∙ u .size) (λ b l. two _ _ (p .0) (p .1) (rw r at u) (rw r at x) b l ∙ sym (ap (λ m. first m b) (model-row i) ∙ rw (k′, z′))) (λ k b d l. x .others k b d l ∙ u .others k b d l)
 
-      pub seq-first-left : c .kind ≡ 5 → {null : List ℕ} → Nulls s null i → flag null (c .p) ≡ false → {new : List ℕ} → United t new i t (c .p) → Firsts s new (i + 1)
+      pub seq-first-left : c .kind ≡ 5 → {null : List ℕ} → Nulls row null i → flag null (c .p) ≡ false → {new : List ℕ} → United t new i t (c .p) → Firsts row new (i + 1)
       unfolding first modelForm
       seq-first-left k n z {new} u =
-          let k′ = rw r at k in let p = seq-row s e i h k′ in
+          let k′ = rw r at k in let p = seq-row i k′ in
           let z′ = sym (n .at _ (p .0 .low) (p .0 .lower)) ∙ (rw r at z) in
-          more new (u .size) (λ b l. one _ (p .0) (rw r at u) b l ∙ sym (ap (λ m. first m b) (model-row i) ∙ rw (k′, z′) (or-false (first (modelOf s (scriptOf s .typeRow i .p)) b)))) (u .others)
+          more new (u .size) (λ b l. one _ (p .0) (rw r at u) b l ∙ sym (ap (λ m. first m b) (model-row i) ∙ rw (k′, z′) (or-false (first (rowModel row (row i .p)) b)))) (u .others)
 
-      pub choice-first : c .kind ≡ 6 → {mid new : List ℕ} → United t mid i t (c .p) → United mid new i mid (c .q) → Firsts s new (i + 1)
+      pub choice-first : c .kind ≡ 6 → {mid new : List ℕ} → United t mid i t (c .p) → United mid new i mid (c .q) → Firsts row new (i + 1)
       unfolding first modelForm
       choice-first k {mid} {new} u x =
-          let k′ = rw r at k in let p = choice-row s e i h k′ in
+          let k′ = rw r at k in let p = choice-row i k′ in
           more new (x .size ∙ u .size) (λ b l. two _ _ (p .0) (p .1) (rw r at u) (rw r at x) b l ∙ sym (ap (λ m. first m b) (model-row i) ∙ rw k′)) (λ k b d l. x .others k b d l ∙ u .others k b d l)
 
-      pub star-first : c .kind ≡ 7 → {new : List ℕ} → United t new i t (c .p) → Firsts s new (i + 1)
+      pub star-first : c .kind ≡ 7 → {new : List ℕ} → United t new i t (c .p) → Firsts row new (i + 1)
       unfolding first modelForm
       star-first k {new} u =
-          let k′ = rw r at k in let p = star-row s e i h k′ in
+          let k′ = rw r at k in let p = star-row i k′ in
           more new (u .size) (λ b l. one _ p (rw r at u) b l ∙ sym (ap (λ m. first m b) (model-row i) ∙ rw k′)) (u .others)
 
-      pub other-first : (c .kind ≡ 2 → ⊥) → (c .kind ≡ 3 → ⊥) → (c .kind ≡ 4 → ⊥) → (c .kind ≡ 8 → ⊥) → (c .kind ≡ 5 → ⊥) → (c .kind ≡ 6 → ⊥) → (c .kind ≡ 7 → ⊥) → Firsts s t (i + 1)
+      pub other-first : (c .kind ≡ 2 → ⊥) → (c .kind ≡ 3 → ⊥) → (c .kind ≡ 4 → ⊥) → (c .kind ≡ 8 → ⊥) → (c .kind ≡ 5 → ⊥) → (c .kind ≡ 6 → ⊥) → (c .kind ≡ 7 → ⊥) → Firsts row t (i + 1)
       unfolding first modelForm
-      other-first x2 x3 x4 x8 x5 x6 x7 = more t refl (λ b l. f .none i (omega arith) b l ∙ sym (ap (λ m. first m b) (model-row i) ∙ ap (λ x. first (modelForm (typeForm x) i (modelOf s)) b) (sym r) ∙ go b (view c))) (λ k b d l. refl)
+      other-first x2 x3 x4 x8 x5 x6 x7 = more t refl (λ b l. f .none i (omega arith) b l ∙ sym (ap (λ m. first m b) (model-row i) ∙ ap (λ x. first (modelForm (typeForm x) i (rowModel row)) b) (sym r) ∙ go b (view c))) (λ k b d l. refl)
         where
-          go : (b : ℕ) → {t : TypeRow} → View c t → first (modelForm t i (modelOf s)) b ≡ false
+          go : (b : ℕ) → {t : TypeRow} → View c t → first (modelForm t i (rowModel row)) b ≡ false
           go b v-none = refl
           go b v-empty = refl
           go b (v-text k) = absurd (x2 k)
@@ -163,26 +180,24 @@ module _ (s : List ℕ) (e : shapely s ≡ true) where
 
 -- ---- where the loop begins, goes on and ends
 
-pub nulls-none : (s null : List ℕ) → length null ≡ 513 → Nulls s null 1
-nulls-none s null l = record { size = l; at = λ j p q. absurd (omega arith) }
+pub nulls-none : (row : ℕ → Cells) (null : List ℕ) → length null ≡ 513 → Nulls row null 1
+nulls-none row null l = record { size = l; at = λ j p q. absurd (omega arith) }
 
-pub nulls-more : (s null : List ℕ) (i v : ℕ) → Nulls s null i → i < 513 → eqb v 1 ≡ nullable (modelOf s i) → Nulls s (set null i v) (i + 1)
-nulls-more s null i v n l e = record {
+pub nulls-more : (row : ℕ → Cells) (null : List ℕ) (i v : ℕ) → Nulls row null i → i < 513 → eqb v 1 ≡ nullable (rowModel row i) → Nulls row (set null i v) (i + 1)
+nulls-more row null i v n l e = record {
   size = length-set null i v ∙ n .size;
   at = λ j p q. elim (ℕ-discrete j i) [ yes d ↦ rw d (flag-set null i v (omega (arith, n .size)) ∙ e) | no d ↦ flag-kept null i v j d ∙ n .at j p (omega arith) ];
 }
 
-pub firsts-none : (s t : List ℕ) → Clear t → Firsts s t 1
-firsts-none s t c = record { size = c .size; at = λ j p q. absurd (omega arith); none = λ j p b l. c .none j b l }
+pub firsts-none : (row : ℕ → Cells) (t : List ℕ) → Clear t → Firsts row t 1
+firsts-none row t c = record { size = c .size; at = λ j p q. absurd (omega arith); none = λ j p b l. c .none j b l }
 
-module _ {s : List ℕ} {l : Layout} (L : Laid s l) where
-  pub tables : shapely s ≡ true → {null t : List ℕ} {i : ℕ} → l .types < i → Nulls s null i → Firsts s t i → Tables s null t
-  unfolding scriptOf
-  tables e {null} {t} {i} h n f = record {
-    empty = λ r x. n .at r (table-low (scriptOf s .types) r x) (omega (arith, table-high (scriptOf s .types) r x, L .types));
-    begin = λ r x b. go r x b (either (ltb b 576));
-  }
-    where
-      go : (r : ℕ) → inTable (scriptOf s .types) r ≡ true → (b : ℕ) → (ltb b 576 ≡ true) ⊎ (ltb b 576 ≡ false) → setOf t r b ≡ first (modelOf s r) b
-      go r x b (inl z) = rw z (f .at r (table-low (scriptOf s .types) r x) (omega (arith, table-high (scriptOf s .types) r x, L .types)) b (ltb-true b 576 z))
-      go r x b (inr z) = rw z (sym (first-below s e r b (omega (arith, ltb-false b 576 z, table-high (scriptOf s .types) r x, few-types s e))))
+pub tables : {row : ℕ → Cells} {n : ℕ} → Rows row n → {null t : List ℕ} {i : ℕ} → n < i → Nulls row null i → Firsts row t i → Tables row n null t
+tables {row} {n} R {null} {t} {i} h N f = record {
+  empty = λ r x. N .at r (table-low n r x) (omega (arith, table-high n r x));
+  begin = λ r x b. go r x b (either (ltb b 576));
+}
+  where
+    go : (r : ℕ) → inTable n r ≡ true → (b : ℕ) → (ltb b 576 ≡ true) ⊎ (ltb b 576 ≡ false) → setOf t r b ≡ first (rowModel row r) b
+    go r x b (inl z) = rw z (f .at r (table-low n r x) (omega (arith, table-high n r x)) b (ltb-true b 576 z))
+    go r x b (inr z) = rw z (sym (first-below R r b (omega (arith, ltb-false b 576 z, table-high n r x, R .few))))

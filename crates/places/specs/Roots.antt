@@ -10,7 +10,7 @@ use lib.Dec.{eqb}
 use lib.ListN.{length, set, length-set}
 use borrow.Author.Tests.{eq-eqb, ne-eqb}
 use Rattle.meaning.specs.Tests.{some}
-use Rattle.meaning.specs.Sheet.{Cells, Procedure, scriptOf}
+use Rattle.meaning.specs.Sheet.{Cells, Procedure, row3, scriptOf}
 use Rattle.meaning.specs.Laws.Wired.{or-false}
 use Rattle.sheet.specs.declared.Layout.{Layout}
 use Rattle.sheet.specs.Laid.{Laid}
@@ -61,7 +61,17 @@ some-more test x a b = rw (add-one x) (rw (add-one x) at (marked-then a b))
 pub some-all : {old new : List ℕ} (test : ℕ → ℕ → Bool) {x n : ℕ} → x ≡ n → Marked old new (λ y. some (test y) x) → Marked old new (λ y. some (test y) n)
 some-all test z m = rw z at m
 
--- ---- what each table of a sheet adds
+-- ---- what each table adds
+
+-- row y is the content of row i
+abbrev pub held-root : (ℕ → Cells) → ℕ → ℕ → Bool
+held-root row y i = eqb (row i .kind) 4 && eqb (row i .q) y
+
+pub label-held : (row : ℕ → Cells) (i : ℕ) (c : Cells) → c ≡ row i → c .kind ≡ 4 → {old new : List ℕ} → Marked old new (λ y. eqb (c .q) y) → Marked old new (λ y. held-root row y i)
+label-held row i c r k m = marked-as (λ y. held-root row y i) (λ y. let k′ : row i .kind ≡ 4 = rw r at k in rw (r, k′)) m
+
+pub other-held : (row : ℕ → Cells) (i : ℕ) (c : Cells) → c ≡ row i → (c .kind ≡ 4 → ⊥) → (old : List ℕ) → Marked old old (λ y. held-root row y i)
+other-held row i c r k old = marked-as (λ y. held-root row y i) (λ y. rw (ne-eqb (row i .kind) 4 (λ z. k (rw r z)))) (marked-none old)
 
 module _ (s : List ℕ) where
   abbrev pub named-root : ℕ → ℕ → Bool
@@ -70,19 +80,10 @@ module _ (s : List ℕ) where
   abbrev pub signed-root : ℕ → ℕ → Bool
   signed-root y c = eqb (scriptOf s .procedureRow c .first) y || eqb (scriptOf s .procedureRow c .second) y || eqb (scriptOf s .procedureRow c .input) y || eqb (scriptOf s .procedureRow c .output) y
 
-  abbrev pub held-root : ℕ → ℕ → Bool
-  held-root y i = eqb (scriptOf s .typeRow i .kind) 4 && eqb (scriptOf s .typeRow i .q) y
-
   pub signed : (c : ℕ) (row : Procedure) → row ≡ scriptOf s .procedureRow c → {old new : List ℕ} → Marked old new (λ y. eqb (row .first) y || eqb (row .second) y || eqb (row .input) y || eqb (row .output) y) → Marked old new (λ y. signed-root y c)
   signed c row r m = marked-as (λ y. signed-root y c) (λ y. rw r) m
 
-  pub label-held : (i : ℕ) (c : Cells) → c ≡ scriptOf s .typeRow i → c .kind ≡ 4 → {old new : List ℕ} → Marked old new (λ y. eqb (c .q) y) → Marked old new (λ y. held-root y i)
-  label-held i c r k m = marked-as (λ y. held-root y i) (λ y. let k′ : scriptOf s .typeRow i .kind ≡ 4 = rw r at k in rw (r, k′)) m
-
-  pub other-held : (i : ℕ) (c : Cells) → c ≡ scriptOf s .typeRow i → (c .kind ≡ 4 → ⊥) → (old : List ℕ) → Marked old old (λ y. held-root y i)
-  other-held i c r k old = marked-as (λ y. held-root y i) (λ y. rw (ne-eqb (scriptOf s .typeRow i .kind) 4 (λ z. k (rw r z)))) (marked-none old)
-
   pub rooted : {l : Layout} → Laid s l → {old new : List ℕ} → length old ≡ 513 → ((y : ℕ) → flag old y ≡ false)
-      → Marked old new (λ y. eqb (l .a) y || eqb (l .b) y || some (named-root y) (l .names) || some (signed-root y) (l .procedures) || some (held-root y) (l .types)) → Rooted s new
+      → Marked old new (λ y. eqb (l .a) y || eqb (l .b) y || some (named-root y) (l .names) || some (signed-root y) (l .procedures) || some (held-root (row3 s (l .«types_at») (l .types)) y) (l .types)) → Rooted s new
   unfolding scriptOf
-  rooted L {old} n z m = record { size = m .size ∙ n; at = λ y l. m .at y l ∙ rw (z y, L .a, L .b, L .names, L .procedures, L .types) }
+  rooted L {old} n z m = record { size = m .size ∙ n; at = λ y l. m .at y l ∙ rw (z y, L .a, L .b, L .names, L .procedures, L .types, L .types-at) }

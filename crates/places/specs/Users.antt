@@ -20,9 +20,9 @@ use Rattle.meaning.specs.Laws.Wired.{has}
 use Rattle.meaning.specs.Laws.Apart.{Side, View, v-none, v-empty, v-text, v-bool, v-label, v-seq, v-choice, v-star, v-name, view}
 use Rattle.barren.specs.Flags.{flag-kept, unset}
 use Rattle.barren.specs.Rows.{Part, few-types}
-use Rattle.places.specs.Tables.{modelOf, formAt, isRoot, Free, Rooted}
-use Rattle.places.specs.Firsts.{PlaceKind, model-row}
-use Rattle.places.specs.Behind.{side-part}
+use Rattle.places.specs.Tables.{rowForm, modelOf, isRoot, Free, Rooted}
+use Rattle.places.specs.Firsts.{PlaceKind, model-row, side-part}
+use Rattle.places.specs.Sheets.{shaped-rows}
 
 -- ---- sums
 
@@ -125,7 +125,7 @@ module _ (s : List ℕ) (e : shapely s ≡ true) where
       ]
 
   -- a side of a row is no root
-  pub side-free : (i j : ℕ) → inTable (scriptOf s .types) i ≡ true → Side (formAt s i) j → isRoot s j ≡ false
+  pub side-free : (i j : ℕ) → inTable (scriptOf s .types) i ≡ true → Side (rowForm (scriptOf s .typeRow) i) j → isRoot s j ≡ false
   unfolding Side
   side-free i j h x = elim (either (isRoot s j)) [
     | inl d ↦ absurd (elim (or-cases (is-declared (scriptOf s) j) (is-content (scriptOf s) j) d) [
@@ -136,7 +136,7 @@ module _ (s : List ℕ) (e : shapely s ≡ true) where
   ]
     where
       part : Part i j
-      part = side-part s e i j h x
+      part = side-part (shaped-rows s e) i j x
 
       one : inner j + outer j ≡ 1
       one = one-user j (in-table (scriptOf s .types) j (part .low) (omega (arith, part .lower, table-high (scriptOf s .types) i h)))
@@ -144,7 +144,7 @@ module _ (s : List ℕ) (e : shapely s ≡ true) where
       here : 1 ≤ type-hits j (scriptOf s .typeRow i)
       here = side-hit (scriptOf s .typeRow i) _ (view (scriptOf s .typeRow i)) j x
 
-      no-side : (k : ℕ) → scriptOf s .typeRow k .kind ≡ 4 → Side (formAt s k) j → ⊥
+      no-side : (k : ℕ) → scriptOf s .typeRow k .kind ≡ 4 → Side (rowForm (scriptOf s .typeRow) k) j → ⊥
       no-side k z y = let w : ⊥ = rw z at y in w
 
       held : (k : ℕ) × (1 ≤ k) × (k ≤ scriptOf s .types) × (eqb (scriptOf s .typeRow k .kind) 4 && eqb (scriptOf s .typeRow k .q) j ≡ true) → ⊥
@@ -159,14 +159,14 @@ module _ (s : List ℕ) (e : shapely s ≡ true) where
             total-both (λ i. type-hits j (scriptOf s .typeRow i)) (scriptOf s .types) i k h (in-table (scriptOf s .types) k p q) (λ y. no-side k z (rw y at x)),
           )
 
-  pub rooted-free : {root : List ℕ} → Rooted s root → Free s root (scriptOf s .types)
+  pub rooted-free : {root : List ℕ} → Rooted s root → Free (scriptOf s .typeRow) root (scriptOf s .types)
   rooted-free r i j p q x =
       let h = in-table (scriptOf s .types) i p q in
-      r .at j (omega (arith, side-part s e i j h x .lower, few-types s e)) ∙ side-free i j h x
+      r .at j (omega (arith, side-part (shaped-rows s e) i j x .lower, few-types s e)) ∙ side-free i j h x
 
   -- one row flagged, and only the rows up to it looked at
-  pub told-free : (told : ℕ) → told ≤ scriptOf s .types → Free s (set (replicate 513 0) told 1) told
-  told-free told l i j p q x = flag-kept (replicate 513 0) told 1 j (λ z. omega (arith, side-part s e i j (in-table (scriptOf s .types) i p (omega arith)) x .lower)) ∙ unset 513 j
+  pub told-free : (told : ℕ) → told ≤ scriptOf s .types → Free (scriptOf s .typeRow) (set (replicate 513 0) told 1) told
+  told-free told l i j p q x = flag-kept (replicate 513 0) told 1 j (λ z. omega (arith, side-part (shaped-rows s e) i j x .lower)) ∙ unset 513 j
 
   -- ---- from each row up to a root
 
@@ -198,20 +198,20 @@ module _ (s : List ℕ) (e : shapely s ≡ true) where
       ]
 
   -- a row is a root, or a side of a row
-  user-of : (j : ℕ) → inTable (scriptOf s .types) j ≡ true → (isRoot s j ≡ true) ⊎ ((i : ℕ) × (inTable (scriptOf s .types) i ≡ true) × Side (formAt s i) j)
+  user-of : (j : ℕ) → inTable (scriptOf s .types) j ≡ true → (isRoot s j ≡ true) ⊎ ((i : ℕ) × (inTable (scriptOf s .types) i ≡ true) × Side (rowForm (scriptOf s .typeRow) i) j)
   user-of j h = elim (decLe 1 (inner j)) [
     | yes l ↦ (let x = total-some (λ i. type-hits j (scriptOf s .typeRow i)) (scriptOf s .types) l in by (x .0) (x .1) (x .2) (hit-row _ _ _ _ j (x .3)))
     | no l ↦ inl (or-left _ (declared-by j (omega (arith, one-user j h))))
   ]
     where
-      by : (i : ℕ) → 1 ≤ i → i ≤ scriptOf s .types → Side (formAt s i) j ⊎ ((scriptOf s .typeRow i .kind ≡ 4) × (scriptOf s .typeRow i .q ≡ j)) → (isRoot s j ≡ true) ⊎ ((i : ℕ) × (inTable (scriptOf s .types) i ≡ true) × Side (formAt s i) j)
+      by : (i : ℕ) → 1 ≤ i → i ≤ scriptOf s .types → Side (rowForm (scriptOf s .typeRow) i) j ⊎ ((scriptOf s .typeRow i .kind ≡ 4) × (scriptOf s .typeRow i .q ≡ j)) → (isRoot s j ≡ true) ⊎ ((i : ℕ) × (inTable (scriptOf s .types) i ≡ true) × Side (rowForm (scriptOf s .typeRow) i) j)
       by i p q (inl x) = inr (i, in-table (scriptOf s .types) i p q, x)
       by i p q (inr (k, z)) = inl (or-right (is-declared (scriptOf s) j) (some-at (λ i. eqb (scriptOf s .typeRow i .kind) 4 && eqb (scriptOf s .typeRow i .q) j) (scriptOf s .types) i p q (rw (eq-eqb (scriptOf s .typeRow i .kind) 4 k) (eq-eqb (scriptOf s .typeRow i .q) j z))))
 
   -- what a side has, the row has
-  side-has : (i j a : ℕ) → Side (formAt s i) j → has (modelOf s j) a ≡ true → has (modelOf s i) a ≡ true
+  side-has : (i j a : ℕ) → Side (rowForm (scriptOf s .typeRow) i) j → has (modelOf s j) a ≡ true → has (modelOf s i) a ≡ true
   unfolding Side has modelForm
-  side-has i j a x y = rw (model-row s e i) (go (formAt s i) x)
+  side-has i j a x y = rw (model-row (shaped-rows s e) i) (go (rowForm (scriptOf s .typeRow) i) x)
     where
       at-side : {p : ℕ} → p ≡ j → has (modelOf s p) a ≡ true
       at-side z = rw z y
@@ -230,13 +230,13 @@ module _ (s : List ℕ) (e : shapely s ≡ true) where
     pub is-root : isRoot s root ≡ true
     pub keeps : (a : ℕ) → has (modelOf s j) a ≡ true → has (modelOf s root) a ≡ true
 
-  up : (i j : ℕ) → Side (formAt s i) j → Above i → Above j
+  up : (i j : ℕ) → Side (rowForm (scriptOf s .typeRow) i) j → Above i → Above j
   up i j x r = record { root = r .root; in-types = r .in-types; is-root = r .is-root; keeps = λ a y. r .keeps a (side-has i j a x y) }
 
   climb : (j : ℕ) → inTable (scriptOf s .types) j ≡ true → ((i : ℕ) → inTable (scriptOf s .types) i ≡ true → j < i → Above i) → Above j
   climb j h again = elim (user-of j h) [
     | inl r ↦ record { root = j; in-types = h; is-root = r; keeps = λ a y. y }
-    | inr x ↦ up (x .0) j (x .2) (again (x .0) (x .1) (side-part s e (x .0) j (x .1) (x .2) .lower))
+    | inr x ↦ up (x .0) j (x .2) (again (x .0) (x .1) (side-part (shaped-rows s e) (x .0) j (x .2) .lower))
   ]
 
   pub above : (n j : ℕ) → inTable (scriptOf s .types) j ≡ true → scriptOf s .types ≤ n + j → Above j
@@ -245,7 +245,7 @@ module _ (s : List ℕ) (e : shapely s ≡ true) where
 
   -- ---- what a model has is a place
 
-  place-in : (k r a : ℕ) → has (model (formAt s) k r) a ≡ true → PlaceKind (scriptOf s .typeRow a .kind)
+  place-in : (k r a : ℕ) → has (model (rowForm (scriptOf s .typeRow)) k r) a ≡ true → PlaceKind (scriptOf s .typeRow a .kind)
   unfolding has model modelForm
   place-in zero r a y = absurd (false≢true y)
   place-in (suc k) r a y = go (view (scriptOf s .typeRow r)) (λ j. place-in k j a) y
@@ -253,14 +253,14 @@ module _ (s : List ℕ) (e : shapely s ≡ true) where
       at : PlaceKind (scriptOf s .typeRow r .kind) → eqb r a ≡ true → PlaceKind (scriptOf s .typeRow a .kind)
       at p z = rw (eqb-true r a z) at p
 
-      go : {t : TypeRow} → View (scriptOf s .typeRow r) t → ((j : ℕ) → has (model (formAt s) k j) a ≡ true → PlaceKind (scriptOf s .typeRow a .kind)) → has (modelForm t r (model (formAt s) k)) a ≡ true → PlaceKind (scriptOf s .typeRow a .kind)
+      go : {t : TypeRow} → View (scriptOf s .typeRow r) t → ((j : ℕ) → has (model (rowForm (scriptOf s .typeRow)) k j) a ≡ true → PlaceKind (scriptOf s .typeRow a .kind)) → has (modelForm t r (model (rowForm (scriptOf s .typeRow)) k)) a ≡ true → PlaceKind (scriptOf s .typeRow a .kind)
       go v-none again y = absurd (false≢true y)
       go v-empty again y = absurd (false≢true y)
       go (v-text c) again y = at (inl c) y
       go (v-bool c) again y = at (inr (inl c)) y
       go (v-label c) again y = at (inr (inr (inl c))) y
-      go (v-seq c) again y = elim (or-cases (has (model (formAt s) k _) a) (has (model (formAt s) k _) a) y) [ inl z ↦ again _ z | inr z ↦ again _ z ]
-      go (v-choice c) again y = elim (or-cases (has (model (formAt s) k _) a) (has (model (formAt s) k _) a) y) [ inl z ↦ again _ z | inr z ↦ again _ z ]
+      go (v-seq c) again y = elim (or-cases (has (model (rowForm (scriptOf s .typeRow)) k _) a) (has (model (rowForm (scriptOf s .typeRow)) k _) a) y) [ inl z ↦ again _ z | inr z ↦ again _ z ]
+      go (v-choice c) again y = elim (or-cases (has (model (rowForm (scriptOf s .typeRow)) k _) a) (has (model (rowForm (scriptOf s .typeRow)) k _) a) y) [ inl z ↦ again _ z | inr z ↦ again _ z ]
       go (v-star c) again y = again _ y
       go (v-name c) again y = at (inr (inr (inr c))) y
 
@@ -271,9 +271,9 @@ module _ (s : List ℕ) (e : shapely s ≡ true) where
   -- a row that is a place is its own model
   pub place-has : (a : ℕ) → PlaceKind (scriptOf s .typeRow a .kind) → has (modelOf s a) a ≡ true
   unfolding has modelForm
-  place-has a p = rw (model-row s e a) (go p)
+  place-has a p = rw (model-row (shaped-rows s e) a) (go p)
     where
-      go : PlaceKind (scriptOf s .typeRow a .kind) → has (modelForm (formAt s a) a (modelOf s)) a ≡ true
+      go : PlaceKind (scriptOf s .typeRow a .kind) → has (modelForm (rowForm (scriptOf s .typeRow) a) a (modelOf s)) a ≡ true
       go (inl k) = rw k (eq-eqb a a refl)
       go (inr (inl k)) = rw k (eq-eqb a a refl)
       go (inr (inr (inl k))) = rw k (eq-eqb a a refl)

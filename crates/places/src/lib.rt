@@ -1,27 +1,28 @@
-// The places of the type rows: which rows may be empty, what may stand first at each, and what may stand next behind each. End is place 0.
+// The places of type rows: which rows may be empty, what may stand first at each, and what may stand next behind each. End is place 0.
+// A table of `n` type rows is lent as bytes and the word `at` at which it begins: a sheet's own, or a type written out.
 use sheet::Layout;
 ghost use mathlib.Core.Path.{_≡_};
 ghost use mathlib.Core.Bool.{true, false};
 ghost use Prim.Native.Nat.{ℕ, _+_, _<_, _≤_};
 ghost use lib.ListN.{length};
 ghost use lib.Dec.{eqb};
-ghost use Rattle.meaning.specs.Shape.{shapely};
+ghost use Rattle.meaning.specs.Sheet.{row3};
 ghost use Rattle.meaning.specs.Places.{nullable};
 ghost use Rattle.sheet.specs.Laid.{Laid};
 ghost use Rattle.barren.specs.Flags.{flag};
-ghost use Rattle.places.specs.Tables.{modelOf, Clear, Nulls, Firsts, Tables, Passed, Ready, Fell, Ended, Free, Wires, Rooted};
+ghost use Rattle.places.specs.Tables.{Rows, rowModel, Clear, Nulls, Firsts, Tables, Passed, Ready, Fell, Ended, Free, Wires, Rooted};
 ghost use Rattle.places.specs.Roots.{Marked, named-root, signed-root, held-root};
 ghost use Rattle.meaning.specs.Tests.{some};
 
 // Whether row `i` may be empty, from the flags of the rows below it.
-fn may_be_empty(s: &[u8], l: Layout, i: usize, null: &[u8; 513]) -> bool
-    requires { ⌜ shapely (now s) ≡ true ⌝ }
-    requires { ⌜ Laid (now s) l ⌝ }
-    requires { ⌜ (1 ≤ i) × (i ≤ l .types) ⌝ }
-    requires { ⌜ Nulls (now s) (now null) i ⌝ }
-    ensures { λ r. ⌜ r ≡ nullable (modelOf (now (s .entry)) i) ⌝ }
+fn may_be_empty(s: &[u8], at: usize, n: usize, i: usize, null: &[u8; 513]) -> bool
+    requires { ⌜ Rows (row3 (now s) at n) n ⌝ }
+    requires { ⌜ at < 4194304 ⌝ }
+    requires { ⌜ (1 ≤ i) × (i ≤ n) ⌝ }
+    requires { ⌜ Nulls (row3 (now s) at n) (now null) i ⌝ }
+    ensures { λ r. ⌜ r ≡ nullable (rowModel (row3 (now (s .entry)) at n) i) ⌝ }
 {
-    let c = sheet::type_row(s, l, i);
+    let c = sheet::row_of_three(s, at, n, i);
     let kind = c.kind;
     let p = c.p;
     let q = c.q;
@@ -44,15 +45,15 @@ fn may_be_empty(s: &[u8], l: Layout, i: usize, null: &[u8; 513]) -> bool
 }
 
 // What may stand first at row `i`, from the rows below it.
-fn begin(s: &[u8], l: Layout, i: usize, null: &[u8; 513], first: &mut [u64; 4617])
-    requires { ⌜ shapely (now s) ≡ true ⌝ }
-    requires { ⌜ Laid (now s) l ⌝ }
-    requires { ⌜ (1 ≤ i) × (i ≤ l .types) ⌝ }
-    requires { ⌜ Nulls (now s) (now null) i ⌝ }
-    requires { ⌜ Firsts (now s) (now first) i ⌝ }
-    ensures { λ _. ⌜ Firsts (now (s .entry)) (now (first .exit)) (i + 1) ⌝ }
+fn begin(s: &[u8], at: usize, n: usize, i: usize, null: &[u8; 513], first: &mut [u64; 4617])
+    requires { ⌜ Rows (row3 (now s) at n) n ⌝ }
+    requires { ⌜ at < 4194304 ⌝ }
+    requires { ⌜ (1 ≤ i) × (i ≤ n) ⌝ }
+    requires { ⌜ Nulls (row3 (now s) at n) (now null) i ⌝ }
+    requires { ⌜ Firsts (row3 (now s) at n) (now first) i ⌝ }
+    ensures { λ _. ⌜ Firsts (row3 (now (s .entry)) at n) (now (first .exit)) (i + 1) ⌝ }
 {
-    let c = sheet::type_row(s, l, i);
+    let c = sheet::row_of_three(s, at, n, i);
     let kind = c.kind;
     let p = c.p;
     let q = c.q;
@@ -74,17 +75,17 @@ fn begin(s: &[u8], l: Layout, i: usize, null: &[u8; 513], first: &mut [u64; 4617
 }
 
 // Both tables, row by row from below.
-pub fn firsts(s: &[u8], l: Layout, null: &mut [u8; 513], first: &mut [u64; 4617])
-    requires { ⌜ shapely (now s) ≡ true ⌝ }
-    requires { ⌜ Laid (now s) l ⌝ }
+pub fn firsts(s: &[u8], at: usize, n: usize, null: &mut [u8; 513], first: &mut [u64; 4617])
+    requires { ⌜ Rows (row3 (now s) at n) n ⌝ }
+    requires { ⌜ at < 4194304 ⌝ }
     requires { ⌜ length (now null) ≡ 513 ⌝ }
     requires { ⌜ Clear (now first) ⌝ }
-    ensures { λ _. ⌜ Tables (now (s .entry)) (now (null .exit)) (now (first .exit)) ⌝ }
+    ensures { λ _. ⌜ Tables (row3 (now (s .entry)) at n) n (now (null .exit)) (now (first .exit)) ⌝ }
 {
     let mut i = 1;
-    while i <= l.types {
-        begin(s, l, i, null, first);
-        null[i] = barren::digit(may_be_empty(s, l, i, null));
+    while i <= n {
+        begin(s, at, n, i, null, first);
+        null[i] = barren::digit(may_be_empty(s, at, n, i, null));
         i += 1;
     }
 }
@@ -111,20 +112,21 @@ fn pass(
 // What stands behind the sides of row `i`, from what stands behind it.
 fn fall(
     s: &[u8],
-    l: Layout,
+    at: usize,
+    n: usize,
     i: usize,
     null: &[u8; 513],
     first: &[u64; 4617],
     behind: &mut [u64; 4617],
 )
-    requires { ⌜ shapely (now s) ≡ true ⌝ }
-    requires { ⌜ Laid (now s) l ⌝ }
-    requires { ⌜ (1 ≤ i) × (i ≤ l .types) ⌝ }
-    requires { ⌜ Tables (now s) (now null) (now first) ⌝ }
-    requires { ⌜ Ready (now s) (now behind) i ⌝ }
-    ensures { λ _. ⌜ Fell (now (s .entry)) (now (behind .entry)) (now (behind .exit)) i ⌝ }
+    requires { ⌜ Rows (row3 (now s) at n) n ⌝ }
+    requires { ⌜ at < 4194304 ⌝ }
+    requires { ⌜ (1 ≤ i) × (i ≤ n) ⌝ }
+    requires { ⌜ Tables (row3 (now s) at n) n (now null) (now first) ⌝ }
+    requires { ⌜ Ready (row3 (now s) at n) (now behind) i ⌝ }
+    ensures { λ _. ⌜ Fell (row3 (now (s .entry)) at n) (now (behind .entry)) (now (behind .exit)) i ⌝ }
 {
-    let c = sheet::type_row(s, l, i);
+    let c = sheet::row_of_three(s, at, n, i);
     let kind = c.kind;
     let p = c.p;
     let q = c.q;
@@ -159,24 +161,25 @@ fn end(root: &[u8; 513], i: usize, behind: &mut [u64; 4617])
 // What stands behind each row, from row `top` down; End stands behind a root.
 pub fn behinds(
     s: &[u8],
-    l: Layout,
+    at: usize,
+    n: usize,
     top: usize,
     root: &[u8; 513],
     null: &[u8; 513],
     first: &[u64; 4617],
     behind: &mut [u64; 4617],
 )
-    requires { ⌜ shapely (now s) ≡ true ⌝ }
-    requires { ⌜ Laid (now s) l ⌝ }
-    requires { ⌜ top ≤ l .types ⌝ }
-    requires { ⌜ Tables (now s) (now null) (now first) ⌝ }
-    requires { ⌜ Free (now s) (now root) top × Clear (now behind) ⌝ }
-    ensures { λ _. ⌜ Wires (now (s .entry)) (now (root .entry)) (now (behind .exit)) top ⌝ }
+    requires { ⌜ Rows (row3 (now s) at n) n ⌝ }
+    requires { ⌜ at < 4194304 ⌝ }
+    requires { ⌜ top ≤ n ⌝ }
+    requires { ⌜ Tables (row3 (now s) at n) n (now null) (now first) ⌝ }
+    requires { ⌜ Free (row3 (now s) at n) (now root) top × Clear (now behind) ⌝ }
+    ensures { λ _. ⌜ Wires (row3 (now (s .entry)) at n) (now (root .entry)) (now (behind .exit)) top ⌝ }
 {
     let mut i = top;
     while 0 < i {
         end(root, i, behind);
-        fall(s, l, i, null, first, behind);
+        fall(s, at, n, i, null, first, behind);
         i -= 1;
     }
 }
@@ -230,25 +233,25 @@ fn procedure_roots(s: &[u8], l: Layout, root: &mut [u8; 513])
 }
 
 // The content of row `i`, if that is a label.
-fn content(s: &[u8], l: Layout, i: usize, root: &mut [u8; 513])
-    requires { ⌜ Laid (now s) l ⌝ }
+fn content(s: &[u8], at: usize, n: usize, i: usize, root: &mut [u8; 513])
+    requires { ⌜ (at < 4194304) × (n < 65536) ⌝ }
     requires { ⌜ length (now root) ≡ 513 ⌝ }
-    ensures { λ _. ⌜ Marked (now (root .entry)) (now (root .exit)) (λ y. held-root (now (s .entry)) y i) ⌝ }
+    ensures { λ _. ⌜ Marked (now (root .entry)) (now (root .exit)) (λ y. held-root (row3 (now (s .entry)) at n) y i) ⌝ }
 {
-    let c = sheet::type_row(s, l, i);
+    let c = sheet::row_of_three(s, at, n, i);
     if c.kind == 4 {
         mark(root, c.q);
     }
 }
 
-fn content_roots(s: &[u8], l: Layout, root: &mut [u8; 513])
-    requires { ⌜ Laid (now s) l ⌝ }
+pub fn content_roots(s: &[u8], at: usize, n: usize, root: &mut [u8; 513])
+    requires { ⌜ (at < 4194304) × (n < 65536) ⌝ }
     requires { ⌜ length (now root) ≡ 513 ⌝ }
-    ensures { λ _. ⌜ Marked (now (root .entry)) (now (root .exit)) (λ y. some (held-root (now (s .entry)) y) (l .types)) ⌝ }
+    ensures { λ _. ⌜ Marked (now (root .entry)) (now (root .exit)) (λ y. some (held-root (row3 (now (s .entry)) at n) y) n) ⌝ }
 {
     let mut i = 0;
-    while i < l.types {
-        content(s, l, i + 1, root);
+    while i < n {
+        content(s, at, n, i + 1, root);
         i += 1;
     }
 }
@@ -264,5 +267,5 @@ pub fn roots(s: &[u8], l: Layout, root: &mut [u8; 513])
     mark(root, l.b);
     name_roots(s, l, root);
     procedure_roots(s, l, root);
-    content_roots(s, l, root);
+    content_roots(s, l.types_at, l.types, root);
 }

@@ -100,8 +100,8 @@ fn no_row() -> Row
     }
 }
 
-// Row `r` of a table of `n` rows of three words.
-fn row_of_three(s: &[u8], at: usize, n: usize, r: usize) -> Row
+// Row `r` of a table of `n` rows of three words that begins at word `at`.
+pub fn row_of_three(s: &[u8], at: usize, n: usize, r: usize) -> Row
     requires { ⌜ (at < 4194304) × (n < 65536) ⌝ }
     ensures { λ c. ⌜ cellsOf c ≡ row3 (now (s .entry)) at n r ⌝ }
 {

@@ -1,7 +1,7 @@
 -- The head of a place by number: a label, 1024 text, 1025 bool, and 1026 for what is no place. Two places have one head exactly if they have one number.
 use Prim.Native.Nat.{ℕ, zero, suc, _≤_, _<_}
 use mathlib.Core.Path.{_≡_, refl, sym, _∙_, ap}
-use mathlib.Core.Bool.{true}
+use mathlib.Core.Bool.{true, cond}
 use mathlib.Core.List.{List, [], _∷_}
 use mathlib.Core.Logic.{inl, inr}
 use native.Mathlib.Decide.{ℕ-discrete}
@@ -18,7 +18,17 @@ use Rattle.places.specs.Firsts.{PlaceKind}
 abbrev pub headNo : Cells → ℕ
 headNo c = getD (1026 ∷ 1026 ∷ 1024 ∷ 1025 ∷ c .p ∷ []) (c .kind) 1026
 
--- the row that a place acts as
+-- the row that an atom's row stands for: a name's label row, and else itself
+abbrev pub standsFor : List ℕ → Cells → Cells
+standsFor s c = cond (eqb (c .kind) 8) (scriptOf s .typeRow (scriptOf s .nameRow (c .p))) c
+
+pub named-for : (s : List ℕ) (c : Cells) → c .kind ≡ 8 → scriptOf s .typeRow (scriptOf s .nameRow (c .p)) ≡ standsFor s c
+named-for s c k = rw k
+
+pub itself-for : (s : List ℕ) (c : Cells) → (c .kind ≡ 8 → ⊥) → c ≡ standsFor s c
+itself-for s c k = rw (ne-eqb (c .kind) 8 k)
+
+-- the row that a place of the sheet acts as
 abbrev pub actingAt : List ℕ → ℕ → Cells
 actingAt s a = acting (scriptOf s .typeRow) (scriptOf s .nameRow) a
 
@@ -29,33 +39,16 @@ pub head-number : (s : List ℕ) (a : ℕ) (c : Cells) → c ≡ actingAt s a �
 unfolding headNumber
 head-number s a c r = ap headNo r
 
--- by the kind of the row that it acts as
-module _ (s : List ℕ) (a : ℕ) (c : Cells) (r : c ≡ actingAt s a) where
-  pub head-text : c .kind ≡ 2 → 1024 ≡ headNumber s a
-  head-text k = let h = head-number s a c r in rw k at h
-
-  pub head-bool : c .kind ≡ 3 → 1025 ≡ headNumber s a
-  head-bool k = let h = head-number s a c r in rw k at h
-
-  pub head-label : c .kind ≡ 4 → c .p ≡ headNumber s a
-  head-label k = let h = head-number s a c r in rw k at h
-
-  pub head-none : (c .kind ≡ 2 → ⊥) → (c .kind ≡ 3 → ⊥) → (c .kind ≡ 4 → ⊥) → 1026 ≡ headNumber s a
-  head-none x y z = sym (go (c .kind) x y z) ∙ head-number s a c r
-    where
-      go : (k : ℕ) → (k ≡ 2 → ⊥) → (k ≡ 3 → ⊥) → (k ≡ 4 → ⊥) → getD (1026 ∷ 1026 ∷ 1024 ∷ 1025 ∷ c .p ∷ []) k 1026 ≡ 1026
-      go zero x y z = refl
-      go (suc zero) x y z = refl
-      go (suc (suc zero)) x y z = absurd (x refl)
-      go (suc (suc (suc zero))) x y z = absurd (y refl)
-      go (suc (suc (suc (suc zero)))) x y z = absurd (z refl)
-      go (suc (suc (suc (suc (suc k))))) x y z = refl
-
-pub acts-named : (s : List ℕ) (a : ℕ) (c : Cells) → c ≡ scriptOf s .typeRow a → c .kind ≡ 8 → scriptOf s .typeRow (scriptOf s .nameRow (c .p)) ≡ actingAt s a
-acts-named s a c r k = let k′ : scriptOf s .typeRow a .kind ≡ 8 = rw r at k in rw (r, k′)
-
-pub acts-itself : (s : List ℕ) (a : ℕ) (c : Cells) → c ≡ scriptOf s .typeRow a → (c .kind ≡ 8 → ⊥) → c ≡ actingAt s a
-acts-itself s a c r k = rw (ne-eqb (scriptOf s .typeRow a .kind) 8 (λ z. k (rw r z))) r
+pub head-none : (c : Cells) → (c .kind ≡ 2 → ⊥) → (c .kind ≡ 3 → ⊥) → (c .kind ≡ 4 → ⊥) → 1026 ≡ headNo c
+head-none c x y z = sym (go (c .kind) x y z)
+  where
+    go : (k : ℕ) → (k ≡ 2 → ⊥) → (k ≡ 3 → ⊥) → (k ≡ 4 → ⊥) → getD (1026 ∷ 1026 ∷ 1024 ∷ 1025 ∷ c .p ∷ []) k 1026 ≡ 1026
+    go zero x y z = refl
+    go (suc zero) x y z = refl
+    go (suc (suc zero)) x y z = absurd (x refl)
+    go (suc (suc (suc zero))) x y z = absurd (y refl)
+    go (suc (suc (suc (suc zero)))) x y z = absurd (z refl)
+    go (suc (suc (suc (suc (suc k))))) x y z = refl
 
 -- what a place acts as: text, bool, or a label that is one
 data ActsAs (c : Cells) : Type 0 where
@@ -65,7 +58,7 @@ data ActsAs (c : Cells) : Type 0 where
 
 module _ (s : List ℕ) (e : shapely s ≡ true) where
   itself : (a k : ℕ) → scriptOf s .typeRow a .kind ≡ k → (k ≡ 8 → ⊥) → scriptOf s .typeRow a ≡ actingAt s a
-  itself a k z n = acts-itself s a (scriptOf s .typeRow a) refl (λ w. n (sym z ∙ w))
+  itself a k z n = itself-for s (scriptOf s .typeRow a) (λ w. n (sym z ∙ w))
 
   acts-as : (a : ℕ) → PlaceKind (scriptOf s .typeRow a .kind) → ActsAs (actingAt s a)
   acts-as a (inl k) = rw (← itself a 2 k (λ w. omega arith)) (a-text k)
@@ -73,7 +66,7 @@ module _ (s : List ℕ) (e : shapely s ≡ true) where
   acts-as a (inr (inr (inl k))) = rw (← itself a 4 k (λ w. omega arith)) (a-label k (label-row s e a (kind-in s a 3 k) k .0))
   acts-as a (inr (inr (inr k))) =
       let x = named s e (scriptOf s .typeRow a .p) (name-row s e a (kind-in s a 7 k) k) in
-      rw (← acts-named s a (scriptOf s .typeRow a) refl k) (a-label (x .1) (label-row s e (scriptOf s .nameRow (scriptOf s .typeRow a .p)) (x .0) (x .1) .0))
+      rw (← named-for s (scriptOf s .typeRow a) k) (a-label (x .1) (label-row s e (scriptOf s .nameRow (scriptOf s .typeRow a .p)) (x .0) (x .1) .0))
 
   small : {c : Cells} → ActsAs c → headNo c < 1026
   small (a-text k) = rw k (omega arith)
@@ -117,5 +110,5 @@ module _ (s : List ℕ) (e : shapely s ≡ true) where
   unfolding headNumber
   head-place a h = elim (ℕ-discrete (scriptOf s .typeRow a .kind) 8) [
     | yes k ↦ inr (inr (inr k))
-    | no k ↦ headed (scriptOf s .typeRow a) (rw (← acts-itself s a (scriptOf s .typeRow a) refl k) at h)
+    | no k ↦ headed (scriptOf s .typeRow a) (rw (← itself-for s (scriptOf s .typeRow a) k) at h)
   ]

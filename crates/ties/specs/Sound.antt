@@ -8,7 +8,7 @@ use native.Mathlib.Omega.{arith}
 use lib.Dec.{eqb}
 use borrow.Author.Tests.{eqb-true, eqb-false, eq-eqb, ne-eqb, not-true}
 use Rattle.meaning.specs.Tests.{some, inTable}
-use Rattle.meaning.specs.Sheet.{scriptOf}
+use Rattle.meaning.specs.Sheet.{row3, scriptOf}
 use Rattle.meaning.specs.Shape.{shapely}
 use Rattle.meaning.specs.Places.{Model, Set, first, last, follows, headAt, same-head, rivals, tied, Tie, Untied}
 use Rattle.meaning.specs.Reply.{Answer, Loads}
@@ -24,6 +24,7 @@ use Rattle.barren.specs.Rows.{few-types}
 use Rattle.barren.specs.Marks.{SaysBarren}
 use Rattle.places.specs.Tables.{modelOf, setOf, isRoot, Tables, Free, Rooted, Wires}
 use Rattle.places.specs.Firsts.{PlaceKind, first-has}
+use Rattle.places.specs.Sheets.{laid-tables, laid-free, laid-wires}
 use Rattle.places.specs.Users.{above, has-place, place-has, rooted-free}
 use Rattle.ties.specs.declared.Tied.{Tied}
 use Rattle.ties.specs.declared.Soundness.{Soundness}
@@ -71,7 +72,7 @@ module _ (s : List ℕ) (e : shapely s ≡ true) where
     small = place-head s e a (v .1);
   }
 
-  module _ {null begin behind′ root : List ℕ} (T : Tables s null begin) (R : Rooted s root) (W : Wires s root behind′ (scriptOf s .types)) where
+  module _ {null begin behind′ root : List ℕ} (T : Tables (scriptOf s .typeRow) (scriptOf s .types) null begin) (R : Rooted s root) (W : Wires (scriptOf s .typeRow) root behind′ (scriptOf s .types)) where
     root-flag : (r : ℕ) → inTable (scriptOf s .types) r ≡ true → flag root r ≡ isRoot s r
     root-flag r h = R .at r (omega (arith, table-high (scriptOf s .types) r h, few-types s e))
 
@@ -170,13 +171,13 @@ pub record SaysTie (s : List ℕ) (r : Tied) : Type 0 where
   pub lowest : (r .row ≡ 0 → ⊥) → Tie (scriptOf s) (r .row) (r .rival)
 
 module _ {s : List ℕ} {l : Layout} (L : Laid s l) (e : shapely s ≡ true) where
-  pub free-rows : {root : List ℕ} → Rooted s root → Free s root (l .types)
+  pub free-rows : {root : List ℕ} → Rooted s root → Free (row3 s (l .«types_at») (l .types)) root (l .types)
   unfolding scriptOf
-  free-rows R i j p q x = rooted-free s e R i j p (omega (arith, L .types)) x
+  free-rows {root} R = laid-free L root (l .types) (λ i j p q x. rooted-free s e R i j p (omega (arith, L .types)) x)
 
-  pub says-tie : {null begin behind′ root : List ℕ} → Tables s null begin → Rooted s root → Wires s root behind′ (l .types) → {r : Tied} → Least (Upto s root begin behind′ (scriptOf s .types)) r → SaysTie s r
+  pub says-tie : {null begin behind′ root : List ℕ} → Tables (row3 s (l .«types_at») (l .types)) (l .types) null begin → Rooted s root → Wires (row3 s (l .«types_at») (l .types)) root behind′ (l .types) → {r : Tied} → Least (Upto s root begin behind′ (scriptOf s .types)) r → SaysTie s r
   unfolding scriptOf
-  says-tie T R W f = let W′ = rw (L .types) at W in record { none = untied s e T R W′ f; lowest = lowest-tie s e T R W′ f }
+  says-tie T R W f = let T′ = laid-tables L T in let W′ = rw (L .types) at (laid-wires L W) in record { none = untied s e T′ R W′ f; lowest = lowest-tie s e T′ R W′ f }
 
 pub loads-barren : {s : List ℕ} {x : ℕ} → shapely s ≡ true → SaysBarren s x → (x ≡ 0 → ⊥) → Loads s (Answer.refused (reply.Refusal.barren x))
 loads-barren e b n = reply.Loads.is-barren e (b .lowest n)

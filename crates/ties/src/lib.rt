@@ -10,7 +10,7 @@ ghost use Rattle.meaning.specs.Shape.{shapely};
 ghost use Rattle.sheet.specs.Laid.{Laid, cellsOf};
 ghost use Rattle.bits.specs.Sets.{inSet};
 ghost use Rattle.places.specs.Tables.{setOf, Clear};
-ghost use Rattle.ties.specs.Heads.{actingAt, headNumber};
+ghost use Rattle.ties.specs.Heads.{standsFor, actingAt, headNo, headNumber};
 ghost use Rattle.ties.specs.Classes.{Led, Classed, Classes};
 ghost use Rattle.ties.specs.Sound.{SaysTie, soundOf};
 ghost use Rattle.meaning.specs.Reply.{Loads};
@@ -22,24 +22,29 @@ pub struct Tied {
     pub rival: usize,
 }
 
-// The row that a place acts as: a name's label row, and else itself.
-pub fn acting(s: &[u8], l: Layout, a: usize) -> Row
+// The row that an atom's row stands for: a name's label row, and else itself.
+pub fn stands_for(s: &[u8], l: Layout, c: Row) -> Row
     requires { ⌜ Laid (now s) l ⌝ }
-    ensures { λ c. ⌜ cellsOf c ≡ actingAt (now (s .entry)) a ⌝ }
+    ensures { λ r. ⌜ cellsOf r ≡ standsFor (now (s .entry)) (cellsOf c) ⌝ }
 {
-    let c = sheet::type_row(s, l, a);
     if c.kind == 8 {
         return sheet::type_row(s, l, sheet::name_row(s, l, c.p));
     }
     c
 }
 
-// The head of a place by number: a label, 1024 text, 1025 bool; 1026 for what is no place.
-pub fn head(s: &[u8], l: Layout, a: usize) -> usize
+// The row that a place of the sheet acts as.
+pub fn acting(s: &[u8], l: Layout, a: usize) -> Row
     requires { ⌜ Laid (now s) l ⌝ }
-    ensures { λ h. ⌜ h ≡ headNumber (now (s .entry)) a ⌝ }
+    ensures { λ c. ⌜ cellsOf c ≡ actingAt (now (s .entry)) a ⌝ }
 {
-    let c = acting(s, l, a);
+    stands_for(s, l, sheet::type_row(s, l, a))
+}
+
+// The head of such a row by number: a label, 1024 text, 1025 bool; 1026 for what is no atom.
+pub fn head_of(c: Row) -> usize
+    ensures { λ h. ⌜ h ≡ headNo (cellsOf c) ⌝ }
+{
     let kind = c.kind;
     match kind {
         2 => 1024,
@@ -47,6 +52,14 @@ pub fn head(s: &[u8], l: Layout, a: usize) -> usize
         4 => c.p,
         0..=1 | 5..=65535 => 1026,
     }
+}
+
+// The head of a place of the sheet.
+fn head(s: &[u8], l: Layout, a: usize) -> usize
+    requires { ⌜ Laid (now s) l ⌝ }
+    ensures { λ h. ⌜ h ≡ headNumber (now (s .entry)) a ⌝ }
+{
+    head_of(acting(s, l, a))
 }
 
 fn wide(x: u16) -> usize
@@ -256,9 +269,18 @@ fn lowest_tie(s: &[u8], l: Layout) -> Tied
     let mut behind = [0u64; 4617];
     let mut class = [0u16; 1026];
     let mut same = [0u64; 4617];
-    places::firsts(s, l, &mut null, &mut first);
+    places::firsts(s, l.types_at, l.types, &mut null, &mut first);
     places::roots(s, l, &mut root);
-    places::behinds(s, l, l.types, &root, &null, &first, &mut behind);
+    places::behinds(
+        s,
+        l.types_at,
+        l.types,
+        l.types,
+        &root,
+        &null,
+        &first,
+        &mut behind,
+    );
     classes(s, l, &mut class, &mut same);
     tie(s, l, &root, &first, &behind, &class, &same)
 }

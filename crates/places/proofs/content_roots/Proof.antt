@@ -4,6 +4,7 @@ use mathlib.Core.Path.{_∙_}
 use native.Mathlib.Omega.{arith}
 use borrow.Author.Needs.{needs}
 use Rattle.meaning.specs.Tests.{some}
+use Rattle.meaning.specs.Sheet.{row3}
 use Rattle.places.specs.Roots.{Marked, held-root, some-none, some-more, some-all}
 use Rattle.places.proofs.content_roots.Statement.{statement}
 use Rattle.places.proofs.content_roots.Tie as tie
@@ -12,26 +13,26 @@ use Rattle.places.proofs.content_roots.Lts as lts
 use Rattle.places.proofs.content.Reads as content-reads
 
 abbrev Inv-loop : tie.InvT-loop
-Inv-loop s l root₀ i₀ root i = (i ≤ l .types) × Marked root₀ root (λ y. some (held-root s y) i)
+Inv-loop s at n root₀ i₀ root i = (i ≤ n) × Marked root₀ root (λ y. some (held-root (row3 s at n) y) i)
 
 abbrev μ-loop : tie.MeasureT-loop
-μ-loop s l root₀ i₀ root i = l .types - i
+μ-loop s at n root₀ i₀ root i = n - i
 
 -- src/lib.rt:230:5
 loop-holds : tie.Need-loop-holds Inv-loop μ-loop
-loop-holds c = (omega arith, some-none (c .before .args .root .now) (held-root (c .before .args .s .now)))
+loop-holds c = (omega arith, some-none (c .before .args .root .now) (held-root (row3 (c .before .args .s .now) (c .before .args .at) (c .before .args .n))))
 
 -- src/lib.rt:231:23
 add-content : tie.Need-add-content Inv-loop μ-loop
-add-content c = omega (arith, c .before .before .loop .inv .0, c .before .before .before .before .pre .0 .few-types)
+add-content c = omega (arith, c .before .loop .inv .0, c .before .before .before .pre .0 .1)
 
 -- src/lib.rt:231:9
 content-requires : tie.Need-content-requires Inv-loop μ-loop
-content-requires c κs = (c .before .before .before .before .before .pre .0, c .before .before .before .loop .inv .1 .size ∙ c .before .before .before .before .before .pre .1)
+content-requires c κs = (c .before .before .before .before .pre .0, c .before .before .loop .inv .1 .size ∙ c .before .before .before .before .pre .1)
 
 -- src/lib.rt:232:9
 add-i : tie.Need-add-i Inv-loop μ-loop
-add-i c = omega (arith, c .before .before .before .before .loop .inv .0, c .before .before .before .before .before .before .pre .0 .few-types)
+add-i c = omega (arith, c .before .before .before .loop .inv .0, c .before .before .before .before .before .pre .0 .1)
 
 -- src/lib.rt:230:5
 loop-less : tie.Need-loop-less Inv-loop μ-loop
@@ -39,11 +40,11 @@ loop-less c = search needs
 
 -- src/lib.rt:230:5
 loop-again : tie.Need-loop-again Inv-loop μ-loop
-loop-again c = (omega arith, some-more (held-root (c .before .before .before .before .before .before .args .s .now)) (c .before .before .before .before .loop .i) (c .before .before .before .before .loop .inv .1) (c .content .ensures))
+loop-again c = (omega arith, some-more (held-root (row3 (c .before .before .before .before .before .args .s .now) (c .before .before .before .before .before .args .at) (c .before .before .before .before .before .args .n))) (c .before .before .before .loop .i) (c .before .before .before .loop .inv .1) (c .content .ensures))
 
 -- src/lib.rt:224:1
 returns : tie.Need-returns Inv-loop μ-loop
-returns c = some-all (held-root (c .before .before .before .before .args .s .now)) (omega (arith, c .before .before .loop .inv .0, c .if1 .left)) (c .before .before .loop .inv .1)
+returns c = some-all (held-root (row3 (c .before .before .before .args .s .now) (c .before .before .before .args .at) (c .before .before .before .args .n))) (omega (arith, c .before .loop .inv .0, c .loop-test .left)) (c .before .loop .inv .1)
 
 pub content-roots-spec : {M : Type 1} → statement M
 content-roots-spec =

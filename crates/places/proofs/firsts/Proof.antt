@@ -3,9 +3,9 @@ use Prim.Native.Nat.{_≤_, _-_, _+_}
 use mathlib.Core.Path.{_∙_}
 use native.Mathlib.Omega.{arith}
 use borrow.Author.Needs.{needs}
-use Rattle.barren.specs.Rows.{types-high}
+use Rattle.meaning.specs.Sheet.{row3}
 use Rattle.places.specs.Tables.{Nulls, Firsts}
-use Rattle.places.specs.Firsts.{nulls-none, nulls-more, firsts-none, tables}
+use Rattle.places.specs.Firsts.{few-rows, nulls-none, nulls-more, firsts-none, tables}
 use Rattle.places.proofs.firsts.Statement.{statement}
 use Rattle.places.proofs.firsts.Tie as tie
 use Rattle.places.proofs.firsts.Reads as reads
@@ -15,22 +15,22 @@ use Rattle.places.proofs.begin.Reads as begin-reads
 use Rattle.places.proofs.may_be_empty.Reads as may-be-empty-reads
 
 abbrev Inv-loop : tie.InvT-loop
-Inv-loop s l null₀ first₀ i₀ null first i = (1 ≤ i) × (i ≤ l .types + 1) × Nulls s null i × Firsts s first i
+Inv-loop s at n null₀ first₀ i₀ null first i = (1 ≤ i) × (i ≤ n + 1) × Nulls (row3 s at n) null i × Firsts (row3 s at n) first i
 
 abbrev μ-loop : tie.MeasureT-loop
-μ-loop s l null₀ first₀ i₀ null first i = l .types + 1 - i
+μ-loop s at n null₀ first₀ i₀ null first i = n + 1 - i
 
 -- src/lib.rt:85:5
 loop-holds : tie.Need-loop-holds Inv-loop μ-loop
-loop-holds c = (omega arith, omega arith, nulls-none (c .before .args .s .now) (c .before .args .null .now) (c .before .pre .1 .1 .0), firsts-none (c .before .args .s .now) (c .before .args .first .now) (c .before .pre .1 .1 .1))
+loop-holds c = (omega arith, omega arith, nulls-none (row3 (c .before .args .s .now) (c .before .args .at) (c .before .args .n)) (c .before .args .null .now) (c .before .pre .1 .1 .0), firsts-none (row3 (c .before .args .s .now) (c .before .args .at) (c .before .args .n)) (c .before .args .first .now) (c .before .pre .1 .1 .1))
 
 -- src/lib.rt:86:9
 begin-requires : tie.Need-begin-requires Inv-loop μ-loop
-begin-requires c κs = ((c .before .before .before .before .before .before .pre .0), ((c .before .before .before .before .before .before .pre .1 .0), ((c .before .before .before .before .loop .inv .0, c .before .before .if1 .taken), (c .before .before .before .before .loop .inv .2, c .before .before .before .before .loop .inv .3))))
+begin-requires c κs = ((c .before .before .before .before .before .pre .0), ((c .before .before .before .before .before .pre .1 .0), ((c .before .before .before .loop .inv .0, c .before .before .loop-test .taken), (c .before .before .before .loop .inv .2, c .before .before .before .loop .inv .3))))
 
 -- src/lib.rt:87:33
 may-be-empty-requires : tie.Need-may-be-empty-requires Inv-loop μ-loop
-may-be-empty-requires c κs = ((c .before .before .before .before .before .before .before .before .pre .0), ((c .before .before .before .before .before .before .before .before .pre .1 .0), ((c .before .before .before .before .before .before .loop .inv .0, c .before .before .before .before .if1 .taken), c .before .before .before .before .before .before .loop .inv .2)))
+may-be-empty-requires c κs = ((c .before .before .before .before .before .before .before .pre .0), ((c .before .before .before .before .before .before .before .pre .1 .0), ((c .before .before .before .before .before .loop .inv .0, c .before .before .before .before .loop-test .taken), c .before .before .before .before .before .loop .inv .2)))
 
 -- src/lib.rt:87:19
 digit-requires : tie.Need-digit-requires Inv-loop μ-loop
@@ -38,11 +38,11 @@ digit-requires c κs = search needs
 
 -- src/lib.rt:87:9
 element-write-null : tie.Need-element-write-null Inv-loop μ-loop
-element-write-null c = omega (arith, types-high (c .before .before .before .before .before .before .before .before .before .before .pre .1 .0) {i = c .before .before .before .before .before .before .before .before .loop .i} (c .before .before .before .before .before .before .before .before .before .before .pre .0) (c .before .before .before .before .before .before .if1 .taken))
+element-write-null c = omega (arith, few-rows (c .before .before .before .before .before .before .before .before .before .pre .0) (c .before .before .before .before .before .before .loop-test .taken))
 
 -- src/lib.rt:88:9
 add-i : tie.Need-add-i Inv-loop μ-loop
-add-i c = omega (arith, types-high (c .before .before .before .before .before .before .before .before .before .before .pre .1 .0) {i = c .before .before .before .before .before .before .before .before .loop .i} (c .before .before .before .before .before .before .before .before .before .before .pre .0) (c .before .before .before .before .before .before .if1 .taken))
+add-i c = omega (arith, few-rows (c .before .before .before .before .before .before .before .before .before .pre .0) (c .before .before .before .before .before .before .loop-test .taken))
 
 -- src/lib.rt:85:5
 loop-less : tie.Need-loop-less Inv-loop μ-loop
@@ -50,11 +50,11 @@ loop-less c = search needs
 
 -- src/lib.rt:85:5
 loop-again : tie.Need-loop-again Inv-loop μ-loop
-loop-again c = (omega arith, omega arith, nulls-more (c .before .before .before .before .before .before .before .before .before .before .args .s .now) (c .before .before .before .before .before .before .before .before .loop .null) (c .before .before .before .before .before .before .before .before .loop .i) (c .digit .result) (c .before .before .before .before .before .before .before .before .loop .inv .2) (omega (arith, types-high (c .before .before .before .before .before .before .before .before .before .before .pre .1 .0) {i = c .before .before .before .before .before .before .before .before .loop .i} (c .before .before .before .before .before .before .before .before .before .before .pre .0) (c .before .before .before .before .before .before .if1 .taken))) (c .digit .ensures ∙ c .before .may-be-empty .ensures), c .before .before .before .begin .ensures)
+loop-again c = (omega arith, omega arith, nulls-more (row3 (c .before .before .before .before .before .before .before .before .before .args .s .now) (c .before .before .before .before .before .before .before .before .before .args .at) (c .before .before .before .before .before .before .before .before .before .args .n)) (c .before .before .before .before .before .before .before .loop .null) (c .before .before .before .before .before .before .before .loop .i) (c .digit .result) (c .before .before .before .before .before .before .before .loop .inv .2) (omega (arith, few-rows (c .before .before .before .before .before .before .before .before .before .pre .0) (c .before .before .before .before .before .before .loop-test .taken))) (c .digit .ensures ∙ c .before .may-be-empty .ensures), c .before .before .before .begin .ensures)
 
 -- src/lib.rt:77:1
 returns : tie.Need-returns Inv-loop μ-loop
-returns c = tables (c .before .before .before .before .pre .1 .0) (c .before .before .before .before .pre .0) (c .if1 .left) (c .before .before .loop .inv .2) (c .before .before .loop .inv .3)
+returns c = tables (c .before .before .before .pre .0) (c .loop-test .left) (c .before .loop .inv .2) (c .before .loop .inv .3)
 
 pub firsts-spec : {M : Type 1} → statement M
 firsts-spec =

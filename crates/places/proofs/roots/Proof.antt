@@ -1,6 +1,7 @@
 -- `places::roots` meets its contract: all of them together.
 use mathlib.Core.Path.{_∙_}
 use Rattle.places.specs.Roots.{marked-then, rooted}
+use Rattle.places.specs.Sheets.{laid-at}
 use Rattle.places.proofs.roots.Statement.{statement}
 use Rattle.places.proofs.roots.Tie as tie
 use Rattle.places.proofs.roots.Reads as reads
@@ -28,7 +29,7 @@ procedure-roots-requires c κs = (c .before .before .before .before .before .bef
 
 -- src/lib.rt:247:5
 content-roots-requires : tie.Need-content-roots-requires
-content-roots-requires c κs = (c .before .before .before .before .before .before .before .before .before .before .pre .0, c .before .procedure-roots .ensures .size ∙ c .before .before .before .name-roots .ensures .size ∙ c .before .before .before .before .before .mark2 .ensures .size ∙ c .before .before .before .before .before .before .before .mark .ensures .size ∙ c .before .before .before .before .before .before .before .before .before .before .pre .1 .0)
+content-roots-requires c κs = ((laid-at (c .before .before .before .before .before .before .before .before .before .before .pre .0), c .before .before .before .before .before .before .before .before .before .before .pre .0 .few-types), c .before .procedure-roots .ensures .size ∙ c .before .before .before .name-roots .ensures .size ∙ c .before .before .before .before .before .mark2 .ensures .size ∙ c .before .before .before .before .before .before .before .mark .ensures .size ∙ c .before .before .before .before .before .before .before .before .before .before .pre .1 .0)
 
 -- src/lib.rt:237:1
 returns : tie.Need-returns

@@ -5,6 +5,7 @@ use native.Mathlib.Omega.{arith}
 use lib.ListN.{length-replicate}
 use Rattle.barren.specs.Flags.{unset}
 use Rattle.places.specs.Tables.{clear-zeros}
+use Rattle.places.specs.Sheets.{laid-at, laid-rows}
 use Rattle.ties.specs.Sound.{free-rows, says-tie}
 use Rattle.ties.proofs.lowest_tie.Statement.{statement}
 use Rattle.ties.proofs.lowest_tie.Tie as tie
@@ -18,7 +19,7 @@ use Rattle.ties.proofs.tie.Reads as tie-reads
 
 -- src/lib.rt:219:5
 firsts-requires : tie.Need-firsts-requires
-firsts-requires c κs = ((c .before .before .before .pre .0), ((c .before .before .before .pre .1), (length-replicate {A = ℕ} 513 0, clear-zeros)))
+firsts-requires c κs = (laid-rows (c .before .before .before .pre .1) (c .before .before .before .pre .0), (laid-at (c .before .before .before .pre .1), (length-replicate {A = ℕ} 513 0, clear-zeros)))
 
 -- src/lib.rt:220:5
 roots-requires : tie.Need-roots-requires
@@ -26,7 +27,7 @@ roots-requires c κs = ((c .before .before .before .before .before .pre .1), (le
 
 -- src/lib.rt:221:5
 behinds-requires : tie.Need-behinds-requires
-behinds-requires c κs = ((c .before .before .before .before .before .before .before .before .before .before .pre .0), ((c .before .before .before .before .before .before .before .before .before .before .pre .1), (omega arith, (c .before .before .before .before .before .before .firsts .ensures, (free-rows (c .before .before .before .before .before .before .before .before .before .before .pre .1) (c .before .before .before .before .before .before .before .before .before .before .pre .0) (c .before .before .before .before .roots .ensures), clear-zeros)))))
+behinds-requires c κs = (laid-rows (c .before .before .before .before .before .before .before .before .before .before .pre .1) (c .before .before .before .before .before .before .before .before .before .before .pre .0), (laid-at (c .before .before .before .before .before .before .before .before .before .before .pre .1), (omega arith, (c .before .before .before .before .before .before .firsts .ensures, (free-rows (c .before .before .before .before .before .before .before .before .before .before .pre .1) (c .before .before .before .before .before .before .before .before .before .before .pre .0) (c .before .before .before .before .roots .ensures), clear-zeros)))))
 
 -- src/lib.rt:222:5
 classes-requires : tie.Need-classes-requires
