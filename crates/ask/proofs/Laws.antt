@@ -9,12 +9,13 @@ use Rattle.meaning.specs.Sheet.{Cells}
 use Rattle.meaning.specs.Kinds.{Query}
 use Rattle.meaning.specs.Tests.{inTable}
 use Rattle.meaning.specs.Forest.{Tree, Forest, only, count, forestAt, textAt, bytesFrom, sameBytes, boolKind}
-use Rattle.meaning.specs.Walk.{Quiet, halt, ret, _>>=_, of-query, stuck}
+use Rattle.meaning.specs.Walk.{Unasked, Quiet, halt, ret, _>>=_, of-query, stuck}
 use Rattle.meaning.specs.Run.{Seen, a-text, a-bool, seen, inside, branch, same-texts, copied, query-of, each}
+use Rattle.meaning.specs.Laws.Walk.{leads-then}
 use Rattle.meaning.specs.Theorems.ReadBack.{lentRow}
 use Rattle.sheet.specs.declared.Layout.{Layout}
 use Rattle.walk.specs.Scope.{valueOf, More, scoped-with, env-at}
-use Rattle.walk.specs.Meets.{Roomy, Ready, Finished, Stopped, Meets, met-as, met-of, met-ret, met-then, met-stop, stop-then, stop-leads, leads-then, stop-stuck, forest-kept}
+use Rattle.walk.specs.Meets.{Roomy, Ready, Finished, Stopped, Meets, met-as, met-of, met-ret, met-then, met-stop, stop-then, stop-leads, stop-stuck, forest-kept}
 use Rattle.walk.specs.Loop.{Links, Turned, Turns, turns-stop, alone, gathered, turnOf, keepOf}
 use Rattle.walk.specs.declared.Scope.{Scope}
 use Rattle.walk.specs.declared.Purse.{Purse}
@@ -73,7 +74,7 @@ module _ (s : List ℕ) (d : ℕ) {rows t : List ℕ} {e : Scope} {used focus le
     pub both-stop : {why : Stop} → Stopped (asked s t e d q) left' why → Stopped both left why
     both-stop {why} m =
         let x : Forest = forestAt (pool s) (lentRow t) root in
-        stop-leads (leads-then (λ (x : Forest). asked s rows e d q >>= λ y. k x y) (f .settles)) (stop-then (k x) (subst (λ (w : Quiet Forest). Stopped w left' why) (first-after q) m))
+        stop-leads (leads-then Unasked (λ (x : Forest). asked s rows e d q >>= λ y. k x y) (f .settles)) (stop-then (k x) (subst (λ (w : Quiet Forest). Stopped w left' why) (first-after q) m))
 
     pub both-met : {u v : List ℕ} {y m left'' : ℕ} {a : Answer} → Finished (asked s t e d q) (pool s) left' n t u y m left''
         → Meets (k (forestAt (pool s) (lentRow u) root) (forestAt (pool s) (lentRow u) y)) (pool s) left'' m u v a → Meets both (pool s) left used rows v a

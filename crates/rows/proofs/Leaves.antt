@@ -12,8 +12,9 @@ use Rattle.meaning.specs.Run.{Seen, nothing, many, a-text, a-bool, a-node, seen
 use Rattle.meaning.specs.Walk.{ret, pay, gives, Settles, done, Quiet, Unasked}
 use Rattle.meaning.specs.Laws.Forest.{count-⊕}
 use Rattle.meaning.specs.Laws.Rows.{LowRow, LowRows, SameRows, forestAt-zero}
+use Rattle.meaning.specs.Laws.Walk.{leads-pay}
 use Rattle.meaning.specs.Theorems.ReadBack.{lentRow}
-use Rattle.walk.specs.Meets.{Roomy, Finished, leads-pay}
+use Rattle.walk.specs.Meets.{Roomy, Finished}
 use Rattle.walk.specs.Loop.{Links, gathered, keepOf, Turned}
 use Rattle.sheet.specs.Laid.{Words}
 use Rattle.rows.specs.Rows.{Readable, Pushed, JoinAsks, Wrote, PickAsks, MakeAsks, made}
@@ -25,7 +26,7 @@ use Rattle.rows.proofs.Labels.{node-form, out-three}
 copied-settles : (n : ℕ) (f g : Forest) (left left' : ℕ) → left' + n ≡ left → g ≡ f → Settles Unasked (copied n f) left (gives g) left'
 copied-settles n f g left left' e is =
     let last : Settles Unasked (ret f) left' (gives f) left' = done in
-    leads-pay n (ret f) left left' e (gives g) left' (subst (λ (x : Forest). Settles Unasked (ret f) left' (gives x) left') (sym is) last)
+    leads-pay Unasked n (ret f) left left' e (gives g) left' (subst (λ (x : Forest). Settles Unasked (ret f) left' (gives x) left') (sym is) last)
 
 pub wrote-done : (byte : ℕ → ℕ) {s t : List ℕ} {used n k root used' left : ℕ} {f : Forest} (left' : ℕ) → Wrote byte s t used f n root used' → k ≡ n → left' + k ≡ left → Finished (copied n f) byte left used s t root used' left'
 wrote-done byte {s} {t} {used} {n} {k} {root} {used'} {left} {f} left' w isn e = record {

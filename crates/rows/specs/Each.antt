@@ -11,9 +11,10 @@ use Rattle.meaning.specs.Forest.{Tree, Forest, nil, cons, only, _⊕_, count, t
 use Rattle.meaning.specs.Run.{each}
 use Rattle.meaning.specs.Walk.{Walk, ret, halt, tick, _>>=_, pay, Verdict, gives, Settles, done, Quiet, Unasked}
 use Rattle.meaning.specs.Laws.Rows.{LowRow, LowRows, SameRows, forestAt-zero}
+use Rattle.meaning.specs.Laws.Walk.{Leads, leads-then, leads-tick}
 use Rattle.meaning.specs.Theorems.ReadBack.{lentRow}
 use Rattle.walk.specs.Scope.{Scoped, scoped-more}
-use Rattle.walk.specs.Meets.{Roomy, Ready, Finished, Stopped, Leads, leads-tick, leads-then, stop-leads, stop-then, same-trans, forest-kept}
+use Rattle.walk.specs.Meets.{Roomy, Ready, Finished, Stopped, stop-leads, stop-then, same-trans, forest-kept}
 use Rattle.walk.specs.Loop.{Links, gathered, alone, keepOf, turnOf, loopOf, loop-is, Turned, TurnsBy, Turns}
 use Rattle.walk.specs.declared.Scope.{Scope}
 use Rattle.walk.specs.declared.Answer.{Answer}
@@ -26,7 +27,7 @@ use Rattle.rows.specs.Table.{read-next, read-child, read-forest, forest-
 pub record Looping (b : Forest → Quiet Forest) (byte : ℕ → ℕ) (s t : List ℕ) (used focus left at link n left' : ℕ) : Type 0 where
   pub among : at ≤ used
   pub linked : link ≤ n
-  pub leads : Leads (each b (forestAt byte (lentRow s) focus)) left (loopOf b (forestAt byte (lentRow s) at) (forestAt byte (lentRow t) link)) left'
+  pub leads : Leads Unasked (each b (forestAt byte (lentRow s) focus)) left (loopOf b (forestAt byte (lentRow s) at) (forestAt byte (lentRow t) link)) left'
   pub links : Links (forestAt byte (lentRow t) link)
   pub grown : used ≤ n
   pub paid : n + left' + count (gathered (forestAt byte (lentRow t) link)) ≤ used + left
@@ -99,7 +100,7 @@ module _ (b : Forest → Quiet Forest) (byte : ℕ → ℕ) {s : List ℕ} {used
         abbrev turn-walk : Quiet Forest
         turn-walk = turnOf now-body (alone (forestAt byte (lentRow t) at)) (forestAt byte (lentRow t) link)
 
-        whole : Leads (each b (forestAt byte (lentRow s) focus)) left (turn-walk >>= loopOf b (forestAt byte (lentRow s) (c .r))) left'
+        whole : Leads Unasked (each b (forestAt byte (lentRow s) focus)) left (turn-walk >>= loopOf b (forestAt byte (lentRow s) (c .r))) left'
         whole = λ v m x. g .leads v m (subst (λ (w : Quiet Forest). Settles Unasked w left' v m) (sym loop-next) x)
 
         pub loop-stop : {why : Stop} → Stopped (turnOf now-body (alone (forestAt byte (lentRow t) at)) (forestAt byte (lentRow t) link)) left' why → Stopped (each b (forestAt byte (lentRow s) focus)) left why
@@ -111,7 +112,7 @@ module _ (b : Forest → Quiet Forest) (byte : ℕ → ℕ) {s : List ℕ} {used
         loop-more {u} {root} {m} {left''} f = record {
           among = omega (arith, loop-falls, g .among);
           linked = f .inside;
-          leads = λ v k x. whole v k (leads-then (loopOf b (forestAt byte (lentRow s) (c .r))) (f .settles) v k x);
+          leads = λ v k x. whole v k (leads-then Unasked (loopOf b (forestAt byte (lentRow s) (c .r))) (f .settles) v k x);
           links = f .links;
           grown = omega (arith, g .grown, f .grown);
           paid = omega (arith, g .paid, f .paid);
@@ -148,7 +149,7 @@ module _ (byte : ℕ → ℕ) {s t : List ℕ} {used r left row : ℕ} (left' : 
     body-is = same-body ∙ ap b one-is
 
     pub one-stop : {why : Stop} (links : Forest) → Stopped w left' why → Stopped (turnOf b (alone (forestAt byte (lentRow s) r)) links) left why
-    one-stop {why} links m = stop-leads (leads-tick (b (alone (forestAt byte (lentRow s) r)) >>= keepOf links) left left' pd) (stop-then (keepOf links) (subst (λ (x : Quiet Forest). Stopped x left' why) body-is m))
+    one-stop {why} links m = stop-leads (leads-tick Unasked (b (alone (forestAt byte (lentRow s) r)) >>= keepOf links) left left' pd) (stop-then (keepOf links) (subst (λ (x : Quiet Forest). Stopped x left' why) body-is m))
 
     module _ {t' : List ℕ} {root n left'' : ℕ} (fin : Finished w byte left' row t t' root n left'') (spare : n + left'' + 1 ≤ row + left') where
       pub one-keep : (link : ℕ) → link ≤ used → length t' ≡ length s → (Roomy t' n (left'' + 1)) × (root ≤ n) × (link ≤ n)
@@ -164,14 +165,14 @@ module _ (byte : ℕ → ℕ) {s t : List ℕ} {used r left row : ℕ} (left' : 
         pub one-links : Links (forestAt byte (lentRow t') link)
         one-links = rw link-kept ls
 
-        one-leads : Leads (turnOf b (alone (forestAt byte (lentRow s) r)) (forestAt byte (lentRow s) link)) left (keepOf (forestAt byte (lentRow t') link) (forestAt byte (lentRow t') root)) left''
+        one-leads : Leads Unasked (turnOf b (alone (forestAt byte (lentRow s) r)) (forestAt byte (lentRow s) link)) left (keepOf (forestAt byte (lentRow t') link) (forestAt byte (lentRow t') root)) left''
         one-leads = λ v m x.
             let body : Settles Unasked (b (alone (forestAt byte (lentRow s) r))) left' (gives (forestAt byte (lentRow t') root)) left'' =
             subst (λ (y : Quiet Forest). Settles Unasked y left' (gives (forestAt byte (lentRow t') root)) left'') body-is (fin .settles) in
             let kept : Settles Unasked (keepOf (forestAt byte (lentRow s) link) (forestAt byte (lentRow t') root)) left'' v m =
             subst (λ (l : Forest). Settles Unasked (keepOf l (forestAt byte (lentRow t') root)) left'' v m) link-kept x in
-            leads-tick (b (alone (forestAt byte (lentRow s) r)) >>= keepOf (forestAt byte (lentRow s) link)) left left' pd v m
-            (leads-then (keepOf (forestAt byte (lentRow s) link)) body v m kept)
+            leads-tick Unasked (b (alone (forestAt byte (lentRow s) r)) >>= keepOf (forestAt byte (lentRow s) link)) left left' pd v m
+            (leads-then Unasked (keepOf (forestAt byte (lentRow s) link)) body v m kept)
 
         one-by : (u : List ℕ) (a : Answer) → TurnsBy (keepOf (forestAt byte (lentRow t') link) (forestAt byte (lentRow t') root)) byte left'' n (n + left'' + 1 + count (gathered (forestAt byte (lentRow t') link))) t' u a
             → TurnsBy (turnOf b (alone (forestAt byte (lentRow s) r)) (forestAt byte (lentRow s) link)) byte left used (used + left + count (gathered (forestAt byte (lentRow s) link))) s u a

@@ -10,7 +10,7 @@ use Rattle.meaning.specs.Forest.{Forest, nil, forestAt}
 use Rattle.meaning.specs.Walk.{Walk, ret, halt, tick, _>>=_, pay, Verdict, gives, fuel, stops, Settles, done, halted, short, paid, Quiet, Unasked}
 use Rattle.meaning.specs.Walk as meaning
 use Rattle.meaning.specs.Laws.Rows.{LowRow, LowRows, SameRows, forestAt-same, forestAt-zero}
-use Rattle.meaning.specs.Laws.Walk.{pay-paid, pay-short, gives-then, stops-then, fuel-then}
+use Rattle.meaning.specs.Laws.Walk.{Leads, leads-then, leads-tick, pay-paid, pay-short, gives-then, stops-then, fuel-then}
 use Rattle.meaning.specs.Theorems.ReadBack.{lentRow}
 use Rattle.walk.specs.Scope.{Scoped, scoped-more}
 use Rattle.walk.specs.declared.Purse.{Purse}
@@ -115,23 +115,9 @@ met-stop s = record { by = s }
 pub ran-stop : {w : Quiet Forest} {byte : ℕ → ℕ} {left used : ℕ} {old new : List ℕ} {why : Stop} → Stopped w left why → Ran w byte left used old new (Not why)
 ran-stop s = record { met = met-stop s; spare = tt }
 
--- ---- one walk leads to another: whatever the second settles to, the first does
+-- ---- by a walk that it leads to
 
-abbrev pub Leads : Quiet Forest → ℕ → Quiet Forest → ℕ → Type 0
-Leads w left w' left' = (v : Verdict Forest) (m : ℕ) → Settles Unasked w' left' v m → Settles Unasked w left v m
-
-pub leads-tick : (w : Quiet Forest) (left left' : ℕ) → left' + 1 ≡ left → Leads (tick w) left w left'
-leads-tick w left left' e = λ v m s. subst (λ (n : ℕ). Settles Unasked (tick w) n v m) (sym (add-one left') ∙ e) (paid s)
-
-pub leads-pay : (k : ℕ) (w : Quiet Forest) (left left' : ℕ) → left' + k ≡ left → Leads (pay k w) left w left'
-leads-pay k w left left' e =
-    let sum : k + left' ≡ left = omega arith in
-    λ v m s. subst (λ (n : ℕ). Settles Unasked (pay k w) n v m) sum (pay-paid Unasked k s)
-
-pub leads-then : {w : Quiet Forest} {left left' : ℕ} {x : Forest} (k : Forest → Quiet Forest) → Settles Unasked w left (gives x) left' → Leads (w >>= k) left (k x) left'
-leads-then k s = λ v m t. gives-then Unasked k s t
-
-module _ {w w' : Quiet Forest} {left left' : ℕ} (to : Leads w left w' left') where
+module _ {w w' : Quiet Forest} {left left' : ℕ} (to : Leads Unasked w left w' left') where
   pub stop-leads : {why : Stop} → Stopped w' left' why → Stopped w left why
   stop-leads {why} s = record { by = go why (s .by) }
     where
@@ -164,7 +150,7 @@ module _ {w w' : Quiet Forest} {left left' : ℕ} (to : Leads w left w' left') w
 -- a part is done, and what follows is met from where it left off
 pub met-then : {w : Quiet Forest} {byte : ℕ → ℕ} {left used left' used' root : ℕ} {old mid new : List ℕ} {a : Answer} (k : Forest → Quiet Forest)
     → Finished w byte left used old mid root used' left' → Meets (k (forestAt byte (lentRow mid) root)) byte left' used' mid new a → Meets (w >>= k) byte left used old new a
-met-then k f m = met-leads (leads-then k (f .settles)) (f .grown) (f .paid) (f .same) m
+met-then k f m = met-leads (leads-then Unasked k (f .settles)) (f .grown) (f .paid) (f .same) m
 
 -- a part is not done, and that is the answer
 pub stop-then : {w : Quiet Forest} {left : ℕ} {why : Stop} (k : Forest → Quiet Forest) → Stopped w left why → Stopped (w >>= k) left why
@@ -182,7 +168,7 @@ spare-of w byte left left' used old new (Not why) e m = tt
 
 pub ran-tick : {w : Quiet Forest} {byte : ℕ → ℕ} {left' used : ℕ} {old new : List ℕ} {a : Answer} (left : ℕ) → left' + 1 ≡ left → Meets w byte left' used old new a → Ran (tick w) byte left used old new a
 ran-tick {w} {byte} {left'} {used} {old} {new} {a} left e m = record {
-  met = met-leads (leads-tick w left left' e) (omega arith) (omega arith) (λ r i j. refl) m;
+  met = met-leads (leads-tick Unasked w left left' e) (omega arith) (omega arith) (λ r i j. refl) m;
   spare = spare-of w byte left left' used old new a e (m .by);
 }
 

@@ -24,12 +24,13 @@ no-place = record { kind = 0; value = 0 }
 abbrev pub valueOf : Scope → ℕ → ℕ
 valueOf e v = getD (live e) v no-place .value
 
-unfoldable pub forests : (ℕ → ℕ) → (ℕ → Cells) → List Place → List Forest
-forests byte row [] = []
-forests byte row (p ∷ l) = forestAt byte row (p .value) ∷ forests byte row l
+-- what stands at the rows of the places, forests of a run or types of a check
+unfoldable pub values : {A : Type 0} → (ℕ → A) → List Place → List A
+values at [] = []
+values at (p ∷ l) = at (p .value) ∷ values at l
 
 abbrev pub envOf : (ℕ → ℕ) → List ℕ → Scope → List Forest
-envOf byte rows e = forests byte (lentRow rows) (live e)
+envOf byte rows e = values (forestAt byte (lentRow rows)) (live e)
 
 -- each place holds a row of the first n
 unfoldable pub Within : ℕ → List Place → Type 0
@@ -84,48 +85,48 @@ scoped-fresh {e} n f = record { sixteen = f .sixteen; few = omega (arith, f .non
 pub value-within : {n : ℕ} {e : Scope} (v : ℕ) → Scoped n e → valueOf e v ≤ n
 value-within {n} {e} v s = within-at n (live e) v (s .within)
 
+module _ {A : Type 0} (at : ℕ → A) where
+  pub values-same : (at′ : ℕ → A) (n : ℕ) (l : List Place) → ((v : ℕ) → v ≤ n → at′ v ≡ at v) → Within n l → values at′ l ≡ values at l
+  unfolding Within values
+  values-same at′ n [] h w = refl
+  values-same at′ n (p ∷ l) h w = rw (values-same at′ n l h (w .1), h (p .value) (w .0))
+
+  pub values-last : (l : List Place) (p : Place) → values at (l ++ p ∷ []) ≡ values at l ++ at (p .value) ∷ []
+  unfolding values
+  values-last [] p = refl
+  values-last (o ∷ l) p = ap (λ (x : List A). at (o .value) ∷ x) (values-last l p)
+
+  values-length : (l : List Place) → length (values at l) ≡ length l
+  unfolding values
+  values-length [] = refl
+  values-length (p ∷ l) = ap suc (values-length l)
+
+  pub values-at : (none : A) → at 0 ≡ none → (l : List Place) (v : ℕ) → getD (values at l) v none ≡ at (getD l v no-place .value)
+  unfolding values
+  values-at none z [] v = sym z
+  values-at none z (p ∷ l) zero = refl
+  values-at none z (p ∷ l) (suc v) = values-at none z l v
+
 module _ (byte : ℕ → ℕ) where
-  forests-same : (row row′ : ℕ → Cells) (n : ℕ) (l : List Place) → LowRows row n → SameRows row row′ n → Within n l → forests byte row′ l ≡ forests byte row l
-  unfolding Within forests
-  forests-same row row′ n [] low same w = refl
-  forests-same row row′ n (p ∷ l) low same w =
-      let inside = w .0 in
-      let a = forestAt-same byte row row′ (p .value) (λ r i j. low r i (omega arith)) (λ r i j. same r i (omega arith)) in
-      rw (forests-same row row′ n l low same (w .1), a)
-
-  forests-last : (row : ℕ → Cells) (l : List Place) (p : Place) → forests byte row (l ++ p ∷ []) ≡ forests byte row l ++ forestAt byte row (p .value) ∷ []
-  unfolding forests
-  forests-last row [] p = refl
-  forests-last row (o ∷ l) p = ap (λ (x : List Forest). forestAt byte row (o .value) ∷ x) (forests-last row l p)
-
-  forests-length : (row : ℕ → Cells) (l : List Place) → length (forests byte row l) ≡ length l
-  unfolding forests
-  forests-length row [] = refl
-  forests-length row (p ∷ l) = ap suc (forests-length row l)
-
-  forests-at : (row : ℕ → Cells) (l : List Place) (v : ℕ) → getD (forests byte row l) v nil ≡ forestAt byte row (getD l v no-place .value)
-  unfolding forests
-  forests-at row [] v = sym (forestAt-zero byte row)
-  forests-at row (p ∷ l) zero = refl
-  forests-at row (p ∷ l) (suc v) = forests-at row l v
-
   -- rows that agree below keep the environment
   pub env-same : {n : ℕ} {e : Scope} (s t : List ℕ) → LowRows (lentRow s) n → SameRows (lentRow s) (lentRow t) n → Scoped n e → envOf byte t e ≡ envOf byte s e
-  env-same {n} {e} s t low same c = forests-same (lentRow s) (lentRow t) n (live e) low same (c .within)
+  env-same {n} {e} s t low same c =
+      values-same (forestAt byte (lentRow s)) (forestAt byte (lentRow t)) n (live e)
+      (λ v h. sym (forestAt-same byte (lentRow s) (lentRow t) v (λ r i j. low r i (omega arith)) (λ r i j. same r i (omega arith)))) (c .within)
 
   pub env-with : {e e' : Scope} {k v : ℕ} (s : List ℕ) → More e e' k v → envOf byte s e' ≡ envOf byte s e ++ forestAt byte (lentRow s) v ∷ []
-  env-with {e} {e'} {k} {v} s m = rw (m .live) (forests-last (lentRow s) (live e) (record { kind = k; value = v }))
+  env-with {e} {e'} {k} {v} s m = rw (m .live) (values-last (forestAt byte (lentRow s)) (live e) (record { kind = k; value = v }))
 
   pub env-fresh : {e : Scope} (s : List ℕ) → Fresh e → envOf byte s e ≡ []
-  unfolding forests
+  unfolding values
   env-fresh {e} s f = rw (f .none)
 
   pub env-length : {n : ℕ} {e : Scope} (s : List ℕ) → Scoped n e → length (envOf byte s e) ≡ e .count
-  env-length {n} {e} s c = forests-length (lentRow s) (live e) ∙ length-take-le (e .count) (e .places) (omega (arith, c .few, c .sixteen))
+  env-length {n} {e} s c = values-length (forestAt byte (lentRow s)) (live e) ∙ length-take-le (e .count) (e .places) (omega (arith, c .few, c .sixteen))
 
   -- the value of a variable
   pub env-at : (s : List ℕ) (e : Scope) (v : ℕ) → getD (envOf byte s e) v nil ≡ forestAt byte (lentRow s) (valueOf e v)
-  env-at s e v = forests-at (lentRow s) (live e) v
+  env-at s e v = values-at (forestAt byte (lentRow s)) nil (forestAt-zero byte (lentRow s)) (live e) v
 
 -- the array after a store
 pub more-of : {e : Scope} (k v : ℕ) → e .count < 16 → length (e .places) ≡ 16 → More e (record { places = set (e .places) (e .count) (record { kind = k; value = v }); count = e .count + 1 }) k v

@@ -216,7 +216,7 @@ side-lower (TypeRow.star p) i j l e = rw e at l
 
 -- ---- steps enough: only rows up to r are looked at, and r steps are enough
 
-ty-row : (t : TypeRow) (i : ℕ) → Low t i → (at at′ : ℕ → Ty) → ((j : ℕ) → j < i → at j ≡ at′ j) → tyForm t at ≡ tyForm t at′
+pub ty-row : (t : TypeRow) (i : ℕ) → Low t i → (at at′ : ℕ → Ty) → ((j : ℕ) → j < i → at j ≡ at′ j) → tyForm t at ≡ tyForm t at′
 unfolding Low tyForm
 ty-row TypeRow.none i l at at′ h = refl
 ty-row TypeRow.empty i l at at′ h = refl

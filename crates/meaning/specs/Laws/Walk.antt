@@ -2,6 +2,7 @@
 use Prim.Native.Nat.{ℕ, zero, suc, _+_, _≤_, _<_}
 use mathlib.Core.Path.{_≡_, refl, sym, _∙_, ap, subst}
 use native.Mathlib.Omega.{arith}
+use native.Mathlib.Numerals.{add-one}
 use Rattle.meaning.specs.Walk.{Stop, Walk, ret, halt, tick, ask, _>>=_, pay, Judgement, pass, stop, Verdict, gives, fuel, stops, Settles, done, halted, short, paid, passed, refused, Quiet, Unasked, Settled, settle}
 
 module _ {A : Type 0} where
@@ -193,3 +194,20 @@ module _ {Q : Type 0} (J : Q → Judgement → Type 0) where
     safe-map P R (halt s) h f = h
     safe-map P R (tick w) h f = safe-map P R w h f
     safe-map P R (ask q w) h f = (h .0, safe-map P R w (h .1) f)
+
+-- ---- one walk leads to another: whatever the second settles to, the first does
+
+module _ {Q : Type 0} (J : Q → Judgement → Type 0) {A : Type 0} where
+  abbrev pub Leads : Walk Q A → ℕ → Walk Q A → ℕ → Type 0
+  Leads w left w' left' = (v : Verdict A) (m : ℕ) → Settles J w' left' v m → Settles J w left v m
+
+  pub leads-tick : (w : Walk Q A) (left left' : ℕ) → left' + 1 ≡ left → Leads (tick w) left w left'
+  leads-tick w left left' e = λ v m s. subst (λ (n : ℕ). Settles J (tick w) n v m) (sym (add-one left') ∙ e) (paid s)
+
+  pub leads-pay : (k : ℕ) (w : Walk Q A) (left left' : ℕ) → left' + k ≡ left → Leads (pay k w) left w left'
+  leads-pay k w left left' e =
+      let sum : k + left' ≡ left = omega arith in
+      λ v m s. subst (λ (n : ℕ). Settles J (pay k w) n v m) sum (pay-paid J k s)
+
+pub leads-then : {Q : Type 0} (J : Q → Judgement → Type 0) {A B : Type 0} {w : Walk Q A} {left left' : ℕ} {x : A} (k : A → Walk Q B) → Settles J w left (gives x) left' → Leads J (w >>= k) left (k x) left'
+leads-then J k s = λ v m t. gives-then J k s t

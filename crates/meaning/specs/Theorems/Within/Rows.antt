@@ -234,7 +234,7 @@ module _ (s : List ℕ) (shape : shapely s ≡ true) where
   unfolding scriptOf
   no-name x h = rw h
 
-  named-low : (x : ℕ) → S .nameRow x ≤ S .types
+  pub named-low : (x : ℕ) → S .nameRow x ≤ S .types
   named-low x = elim (either (inTable (S .names) x)) [
     | inl h ↦ table-high (S .types) (S .nameRow x) (and-left (inTable (S .types) (S .nameRow x)) (eqb (S .typeRow (S .nameRow x) .kind) 4) (name-words x h))
     | inr h ↦ rw (no-name x h) (omega arith)
@@ -247,7 +247,7 @@ module _ (s : List ℕ) (shape : shapely s ≡ true) where
   unfolding scriptOf
   no-row = refl
 
-  name-content : (x : ℕ) → S .typeRow (S .nameRow x) .q ≤ S .types
+  pub name-content : (x : ℕ) → S .typeRow (S .nameRow x) .q ≤ S .types
   name-content x = elim (either (inTable (S .names) x)) [
     | inl h ↦ table-high (S .types) (S .typeRow (S .nameRow x) .q) (label-content (S .nameRow x) (name-kind x h) .0)
     | inr h ↦ rw (no-name x h, no-row) (omega arith)
