@@ -1,1 +1,2 @@
+-- What a query asks and gives.
 pub mod Ask

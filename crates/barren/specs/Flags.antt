@@ -1,11 +1,12 @@
 -- A list of flags: entry x is set where it is 1. What a store does to them.
-use Prim.Native.Nat.{ℕ, zero, suc, _<_}
-use mathlib.Core.Path.{_≡_, refl, ap}
+use Prim.Native.Nat.{ℕ, _<_}
+use mathlib.Core.Path.{_≡_, ap}
 use mathlib.Core.Bool.{Bool, true, false, _&&_, _||_}
 use mathlib.Core.List.{List}
 use lib.Dec.{eqb}
 use lib.ListN.{getD, length, set, replicate}
 use lib.Seq.{getD-set-same, getD-set-other}
+use Rattle.meaning.specs.Laws.Words.{zeros}
 
 abbrev pub flag : List ℕ → ℕ → Bool
 flag t x = eqb (getD t x 0) 1
@@ -15,12 +16,6 @@ flag-set t x v h = ap (λ n. eqb n 1) (getD-set-same t x v 0 h)
 
 pub flag-kept : (t : List ℕ) (x v y : ℕ) → (y ≡ x → ⊥) → flag (set t x v) y ≡ flag t y
 flag-kept t x v y h = ap (λ n. eqb n 1) (getD-set-other t x y v 0 h)
-
--- past the end and within, zeros are zeros
-pub zeros : (n x : ℕ) → _≡_ {A = ℕ} (getD (replicate n 0) x 0) 0
-zeros zero x = refl
-zeros (suc n) zero = refl
-zeros (suc n) (suc x) = zeros n x
 
 pub unset : (n x : ℕ) → flag (replicate n 0) x ≡ false
 unset n x = ap (λ n. eqb n 1) (zeros n x)

@@ -1,5 +1,5 @@
--- The marking of names, round by round: which rows fill by the marks, kind by kind, what one round does, and what the marks say after as many rounds as there are names.
-use Prim.Native.Nat.{ℕ, zero, suc, _+_, _≤_, _<_}
+-- The marking of names, round by round: which rows fill by the marks, kind by kind, what one round does, and what the marks say where a round adds none, or where all names are marked.
+use Prim.Native.Nat.{ℕ, suc, _+_, _≤_, _<_}
 use mathlib.Core.Path.{_≡_, refl, sym, _∙_, ap}
 use mathlib.Core.Bool.{Bool, true, false, _&&_, _||_, cond}
 use mathlib.Core.List.{List}
@@ -9,20 +9,20 @@ use native.Mathlib.Numerals.{add-one}
 use native.Mathlib.Omega.{arith}
 use lib.Dec.{eqb}
 use lib.ListN.{length, set, replicate, length-set, length-replicate}
-use Rattle.meaning.specs.Tests.{inTable}
+use Rattle.meaning.specs.Tests.{total, inTable}
 use Rattle.meaning.specs.Sheet.{Cells, scriptOf}
 use Rattle.meaning.specs.Kinds.{TypeRow, typeForm, typeAt}
-use Rattle.meaning.specs.Types.{tyForm, ty, tyAt, declared, namesIn}
+use Rattle.meaning.specs.Types.{tyForm, declared, namesIn}
 use Rattle.meaning.specs.Shape.{shapely}
 use Rattle.meaning.specs.Places.{LowestBarren, NoneBarren}
 use Rattle.meaning.specs.Laws.Bools.{not-both}
-use Rattle.meaning.specs.Laws.Tests.{table-low, table-high}
+use Rattle.meaning.specs.Laws.Tests.{in-table, table-low, table-high}
 use Rattle.meaning.specs.Laws.Apart.{View, v-none, v-empty, v-text, v-bool, v-label, v-seq, v-choice, v-star, v-name, view, tyAt-row, shaped-lower}
-use Rattle.meaning.specs.Laws.Barren.{fills, Over, Name, Earned, content-fertile, Far, far-none, far-round, far-closed, unmarked-barren}
+use Rattle.meaning.specs.Laws.Barren.{fills, marks, marks-none, marks-most, marks-all, marks-keep, Name, Earned, Closed, content-fertile, idle-round, unmarked-barren, contents-over}
 use Rattle.sheet.specs.declared.Layout.{Layout}
 use Rattle.sheet.specs.Laid.{Laid}
 use Rattle.barren.specs.Flags.{flag, flag-set, flag-kept, unset}
-use Rattle.barren.specs.Rows.{label-row, seq-row, choice-row, name-row, named, kind-in}
+use Rattle.meaning.specs.Laws.Shaped.{label-row, seq-row, choice-row, named}
 
 -- the flags of the rows below i say which of them have a forest, by the marks of the names
 pub record Filled (s : List ℕ) (live : ℕ → Bool) (full : List ℕ) (i : ℕ) : Type 0 where
@@ -37,15 +37,15 @@ module _ (s : List ℕ) (e : shapely s ≡ true) (live : ℕ → Bool) where
   module _ {full : List ℕ} {i : ℕ} (f : Filled s live full i) (h : inTable (scriptOf s .types) i ≡ true) (c : Cells) (r : c ≡ scriptOf s .typeRow i) where
     pub label-fills : c .kind ≡ 4 → flag full (c .q) ≡ fills live (declared (scriptOf s) i)
     unfolding fills tyForm
-    label-fills k = let k′ = rw r at k in let p = label-row s e i h k′ in rw r (f .at _ (p .1 .low) (p .1 .lower) ∙ sym (fills-row i ∙ rw k′))
+    label-fills k = let k′ = rw r at k in let p = label-row s e i k′ in rw r (f .at _ (p .1 .low) (p .1 .lower) ∙ sym (fills-row i ∙ rw k′))
 
     pub seq-fills : c .kind ≡ 5 → flag full (c .p) && flag full (c .q) ≡ fills live (declared (scriptOf s) i)
     unfolding fills tyForm
-    seq-fills k = let k′ = rw r at k in let p = seq-row s e i h k′ in rw (r, f .at _ (p .0 .low) (p .0 .lower), f .at _ (p .1 .low) (p .1 .lower)) (sym (fills-row i ∙ rw k′))
+    seq-fills k = let k′ = rw r at k in let p = seq-row s e i k′ in rw (r, f .at _ (p .0 .low) (p .0 .lower), f .at _ (p .1 .low) (p .1 .lower)) (sym (fills-row i ∙ rw k′))
 
     pub choice-fills : c .kind ≡ 6 → flag full (c .p) || flag full (c .q) ≡ fills live (declared (scriptOf s) i)
     unfolding fills tyForm
-    choice-fills k = let k′ = rw r at k in let p = choice-row s e i h k′ in rw (r, f .at _ (p .0 .low) (p .0 .lower), f .at _ (p .1 .low) (p .1 .lower)) (sym (fills-row i ∙ rw k′))
+    choice-fills k = let k′ = rw r at k in let p = choice-row s e i k′ in rw (r, f .at _ (p .0 .low) (p .0 .lower), f .at _ (p .1 .low) (p .1 .lower)) (sym (fills-row i ∙ rw k′))
 
     pub name-fills : c .kind ≡ 8 → live (c .p) ≡ fills live (declared (scriptOf s) i)
     unfolding fills tyForm
@@ -118,47 +118,43 @@ rounding-more s old new x false n l e r = record {
   only = r .only;
 }
 
--- ---- the names of a shaped sheet
+-- ---- rounds
 
-over-rows : (s : List ℕ) → shapely s ≡ true → (k r : ℕ) → Over (Name (scriptOf s .names)) (ty (typeAt (scriptOf s)) k r)
-unfolding ty tyForm Over
-over-rows s e zero r = tt
-over-rows s e (suc k) r = go (view (scriptOf s .typeRow r)) (over-rows s e k)
-  where
-    go : {t : TypeRow} → View (scriptOf s .typeRow r) t → ((j : ℕ) → Over (Name (scriptOf s .names)) (ty (typeAt (scriptOf s)) k j)) → Over (Name (scriptOf s .names)) (tyForm t (ty (typeAt (scriptOf s)) k))
-    go v-none h = tt
-    go v-empty h = tt
-    go (v-text c) h = tt
-    go (v-bool c) h = tt
-    go (v-label c) h = h _
-    go (v-seq c) h = (h _, h _)
-    go (v-choice c) h = (h _, h _)
-    go (v-star c) h = h _
-    go (v-name c) h = name-row s e r (kind-in s r 7 c) c
-
-pub known : (s : List ℕ) → shapely s ≡ true → (x : ℕ) → Name (scriptOf s .names) x → Over (Name (scriptOf s .names)) (namesIn (scriptOf s) x .content)
-unfolding namesIn tyAt
-known s e x n = over-rows s e (scriptOf s .typeRow (scriptOf s .nameRow x) .q) (scriptOf s .typeRow (scriptOf s .nameRow x) .q)
-
--- after so many rounds: each mark is earned, and there are as many marks as rounds, or no more can be added
-pub record Turned (s : List ℕ) (e : shapely s ≡ true) (marked : List ℕ) (turn : ℕ) : Type 0 where
+-- each mark is earned, and so many names are marked
+pub record Turned (s marked : List ℕ) (known : ℕ) : Type 0 where
   pub size : length marked ≡ 33
   pub earned : Earned (namesIn (scriptOf s)) (flag marked)
-  pub far : Far (namesIn (scriptOf s)) (scriptOf s .names) (known s e) turn (flag marked)
+  pub counted : known ≡ marks (flag marked) (scriptOf s .names)
 
-pub turned-none : (s : List ℕ) (e : shapely s ≡ true) → Turned s e (replicate 33 0) 0
-turned-none s e = record { size = length-replicate {A = ℕ} 33 0; earned = λ x m. absurd (not-both m (unset 33 x)); far = far-none (namesIn (scriptOf s)) (scriptOf s .names) (known s e) (flag (replicate 33 0)) }
+pub turned-none : (s : List ℕ) → Turned s (replicate 33 0) 0
+turned-none s = record { size = length-replicate {A = ℕ} 33 0; earned = λ x m. absurd (not-both m (unset 33 x)); counted = sym (marks-none (flag (replicate 33 0)) (unset 33) (scriptOf s .names)) }
 
-pub turned-more : (s : List ℕ) (e : shapely s ≡ true) (old new : List ℕ) (turn : ℕ) → Turned s e old turn → Rounding s old new (scriptOf s .names + 1) → Turned s e new (turn + 1)
-turned-more s e old new turn t r = record {
-  size = r .size ∙ t .size;
-  earned = earned;
-  far = rw (add-one turn) (far-round (namesIn (scriptOf s)) (scriptOf s .names) (known s e) turn (flag old) (flag new)
-      (record { keeps = r .keeps; adds = λ x n h. r .adds x n (omega (arith, table-high (scriptOf s .names) x n)) h }) earned (t .far));
-}
-  where
-    earned : Earned (namesIn (scriptOf s)) (flag new)
-    earned x m = elim (r .only x m) [ inl h ↦ t .earned x h | inr h ↦ content-fertile (namesIn (scriptOf s)) (flag old) (t .earned) x h ]
+module _ {s : List ℕ} {l : Layout} (L : Laid s l) where
+  pub names-are : l .names ≡ scriptOf s .names
+  unfolding scriptOf
+  names-are = L .names
+
+  -- marks are at most as many as names
+  pub turned-most : {marked : List ℕ} {known : ℕ} → Turned s marked known → known ≤ l .names
+  turned-most {marked} t = omega (arith, t .counted, names-are, marks-most (flag marked) (scriptOf s .names))
+
+  -- a round, and then found are marked
+  module _ {old new : List ℕ} {known found : ℕ} (t : Turned s old known) (r : Rounding s old new (scriptOf s .names + 1)) (counted : found ≡ marks (flag new) (l .names)) where
+    pub turned-more : Turned s new found
+    turned-more = record {
+      size = r .size ∙ t .size;
+      earned = λ x m. elim (r .only x m) [ inl h ↦ t .earned x h | inr h ↦ content-fertile (namesIn (scriptOf s)) (flag old) (t .earned) x h ];
+      counted = rw names-are at counted;
+    }
+
+    -- marks are never fewer
+    pub turned-up : known ≤ found
+    turned-up = omega (arith, t .counted, turned-more .counted, marks-keep (flag old) (flag new) (r .keeps) (scriptOf s .names))
+
+    -- and where they are no more, none can be added
+    pub turned-closed : (e : shapely s ≡ true) → found ≡ known → Closed (namesIn (scriptOf s)) (scriptOf s .names) (contents-over s e) (flag new)
+    turned-closed e z = idle-round (namesIn (scriptOf s)) (scriptOf s .names) (contents-over s e) (flag old) (flag new)
+        (record { keeps = r .keeps; adds = λ x n h. r .adds x n (omega (arith, table-high (scriptOf s .names) x n)) h }) (turned-more .earned) (omega (arith, t .counted, turned-more .counted))
 
 -- ---- the answer
 
@@ -167,38 +163,51 @@ pub record SaysBarren (s : List ℕ) (r : ℕ) : Type 0 where
   pub none : r ≡ 0 → NoneBarren (scriptOf s)
   pub lowest : (r ≡ 0 → ⊥) → LowestBarren (scriptOf s) r
 
--- the names below x are marked
-pub record AllMarked (marked : List ℕ) (x : ℕ) : Type 0 where
-  pub at : (y : ℕ) → 1 ≤ y → y < x → flag marked y ≡ true
+-- one name more that is marked, or not
+pub marks-yes : (live : ℕ → Bool) (x : ℕ) → live (x + 1) ≡ true → marks live (x + 1) ≡ marks live x + 1
+unfolding total
+marks-yes live x e = let h : live (suc x) ≡ true = rw (add-one x) at e in rw (add-one x, h)
 
--- the lowest name that is not marked, 0 where there is none
+pub marks-no : (live : ℕ → Bool) (x : ℕ) → live (x + 1) ≡ false → marks live (x + 1) ≡ marks live x
+unfolding total
+marks-no live x e = let h : live (suc x) ≡ false = rw (add-one x) at e in rw (add-one x, h) (omega arith)
+
+-- the lowest of the names 1 to n that is not marked, 0 where there is none
 pub record LowestUnmarked (n : ℕ) (marked : List ℕ) (r : ℕ) : Type 0 where
-  pub none : r ≡ 0 → AllMarked marked (n + 1)
-  pub here : (r ≡ 0 → ⊥) → (Name n r) × (flag marked r ≡ false) × AllMarked marked r
+  pub none : r ≡ 0 → (y : ℕ) → Name n y → flag marked y ≡ true
+  pub here : (r ≡ 0 → ⊥) → (Name n r) × (flag marked r ≡ false)
+  pub below : (y : ℕ) → Name n y → y < r → flag marked y ≡ true
 
-pub all-more : (marked : List ℕ) (x : ℕ) → AllMarked marked x → flag marked x ≡ true → AllMarked marked (x + 1)
-all-more marked x a m = record { at = λ y p q. elim (decLt y x) [ yes l ↦ a .at y p l | no l ↦ (let z : y ≡ x = omega arith in rw z m) ] }
+pub lowest-none : (marked : List ℕ) → LowestUnmarked 0 marked 0
+lowest-none marked = record { none = λ z y n. absurd (omega (arith, table-low 0 y n, table-high 0 y n)); here = λ z. absurd (z refl); below = λ y n l. absurd (omega arith) }
 
-pub says : (s : List ℕ) (e : shapely s ≡ true) (marked : List ℕ) (r : ℕ) → Turned s e marked (scriptOf s .names) → LowestUnmarked (scriptOf s .names) marked r → SaysBarren s r
-says s e marked r t l = record {
-  none = λ z x n. t .earned x (l .none z .at x (table-low _ x n) (omega (arith, table-high (scriptOf s .names) x n)));
-  lowest = λ z. let h = l .here z in record {
-    is-name = h .0;
-    barren = unmarked-barren (namesIn (scriptOf s)) (scriptOf s .names) (known s e) (flag marked) (far-closed (namesIn (scriptOf s)) (scriptOf s .names) (known s e) (flag marked) (t .far)) r (h .0) (h .1);
-    lowest = λ y n d. t .earned y (h .2 .at y (table-low _ y n) d);
-  };
-}
+-- one name more
+module _ {n r : ℕ} {marked : List ℕ} (u : LowestUnmarked n marked r) where
+  within : (y : ℕ) → Name (n + 1) y → (y ≡ n + 1 → ⊥) → Name n y
+  within y i d = in-table n y (table-low (n + 1) y i) (omega (arith, table-high (n + 1) y i))
 
--- ---- where a loop begins and ends
+  pub lowest-found : (r ≡ 0 → ⊥) → LowestUnmarked (n + 1) marked r
+  lowest-found z = let h = u .here z in record {
+    none = λ w. absurd (z w);
+    here = λ w. (in-table (n + 1) r (table-low n r (h .0)) (omega (arith, table-high n r (h .0))), h .1);
+    below = λ y i l. u .below y (within y i (λ w. omega (arith, table-high n r (h .0)))) l;
+  }
 
-pub all-none : (marked : List ℕ) → AllMarked marked 1
-all-none marked = record { at = λ y p q. absurd (omega arith) }
+  pub lowest-marked : flag marked (n + 1) ≡ true → LowestUnmarked (n + 1) marked r
+  lowest-marked m = record {
+    none = λ z y i. elim (ℕ-discrete y (n + 1)) [ yes w ↦ rw w m | no w ↦ u .none z y (within y i w) ];
+    here = λ z. let h = u .here z in (in-table (n + 1) r (table-low n r (h .0)) (omega (arith, table-high n r (h .0))), h .1);
+    below = λ y i l. elim (ℕ-discrete y (n + 1)) [ yes w ↦ rw w m | no w ↦ u .below y (within y i w) l ];
+  }
 
-pub lowest-here : {n r : ℕ} {marked : List ℕ} → Name n r → flag marked r ≡ false → AllMarked marked r → LowestUnmarked n marked r
-lowest-here {n} {r} i m a = record { none = λ z. absurd (omega (arith, table-low n r i)); here = λ z. (i, m, a) }
+  pub lowest-here : r ≡ 0 → flag marked (n + 1) ≡ false → LowestUnmarked (n + 1) marked (n + 1)
+  lowest-here z m = record {
+    none = λ w. absurd (omega arith);
+    here = λ w. (in-table (n + 1) (n + 1) (omega arith) (omega arith), m);
+    below = λ y i l. u .none z y (within y i (λ w. omega arith));
+  }
 
-pub lowest-none : (n x : ℕ) (marked : List ℕ) → n < x → AllMarked marked x → LowestUnmarked n marked 0
-lowest-none n x marked l a = record { none = λ z. record { at = λ y p q. a .at y p (omega arith) }; here = λ z. absurd (z refl) }
+-- ---- where a loop ends
 
 module _ {s : List ℕ} {l : Layout} (L : Laid s l) where
   pub filled-all : {live : ℕ → Bool} {full : List ℕ} {i : ℕ} → l .types < i → Filled s live full i → Filled s live full (scriptOf s .types + 1)
@@ -209,7 +218,20 @@ module _ {s : List ℕ} {l : Layout} (L : Laid s l) where
   unfolding scriptOf
   rounding-all h r = record { size = r .size; keeps = r .keeps; adds = λ y n p. r .adds y n (omega (arith, L .names)); only = r .only }
 
-  -- after as many rounds as there are names
-  pub says-by : {marked : List ℕ} {turn r : ℕ} (e : shapely s ≡ true) → turn ≡ l .names → Turned s e marked turn → LowestUnmarked (l .names) marked r → SaysBarren s r
-  unfolding scriptOf
-  says-by {marked} {turn} {r} e z t u = says s e marked r (rw (z ∙ L .names) at t) (rw (L .names) at u)
+  -- a round marked nothing: the lowest name without a mark is the lowest that is barren
+  pub says-lowest : {marked : List ℕ} {known r : ℕ} (e : shapely s ≡ true) → Turned s marked known → Closed (namesIn (scriptOf s)) (scriptOf s .names) (contents-over s e) (flag marked) → LowestUnmarked (l .names) marked r → SaysBarren s r
+  says-lowest {marked} {known} {r} e t closed w = let u : LowestUnmarked (scriptOf s .names) marked r = rw (names-are L) at w in record {
+    none = λ z x n. t .earned x (u .none z x n);
+    lowest = λ z. let h = u .here z in record {
+      is-name = h .0;
+      barren = unmarked-barren (namesIn (scriptOf s)) (scriptOf s .names) (contents-over s e) (flag marked) closed r (h .0) (h .1);
+      lowest = λ y n d. t .earned y (u .below y n d);
+    };
+  }
+
+  -- all names are marked: none is barren
+  pub says-none : {marked : List ℕ} {known : ℕ} → Turned s marked known → l .names ≤ known → SaysBarren s 0
+  says-none {marked} t h = record {
+    none = λ z x n. t .earned x (marks-all (flag marked) (scriptOf s .names) (omega (arith, t .counted, names-are L)) x (table-low _ x n) (table-high _ x n));
+    lowest = λ z. absurd (z refl);
+  }

@@ -1,4 +1,4 @@
-// Barren names: a name is marked once its row is known to have a forest. A round marks what the last one allows; after as many rounds as there are names, what is not marked is barren.
+// Barren names: a name is marked once its row is known to have a forest. A round marks what the last one allows; once a round marks nothing, what is not marked is barren.
 use sheet::Layout;
 ghost use mathlib.Core.Path.{_≡_};
 ghost use mathlib.Core.Bool.{true, cond};
@@ -8,7 +8,7 @@ ghost use lib.Dec.{eqb};
 ghost use Rattle.meaning.specs.Sheet.{scriptOf};
 ghost use Rattle.meaning.specs.Types.{declared};
 ghost use Rattle.meaning.specs.Shape.{shapely};
-ghost use Rattle.meaning.specs.Laws.Barren.{fills as filling};
+ghost use Rattle.meaning.specs.Laws.Barren.{fills as filling, marks};
 ghost use Rattle.sheet.specs.Laid.{Laid};
 ghost use Rattle.barren.specs.Flags.{flag};
 ghost use Rattle.barren.specs.Marks.{Filled, Rounding, LowestUnmarked, SaysBarren};
@@ -106,22 +106,41 @@ fn round(s: &[u8], l: Layout, full: &mut [u8; 513], marked: &mut [u8; 33])
     mark_all(s, l, full, marked);
 }
 
+// How many names are marked.
+fn count(names: usize, marked: &[u8; 33]) -> usize
+    requires { ⌜ names ≤ 32 ⌝ }
+    ensures { λ r. ⌜ r ≡ marks (flag (now (marked .entry))) names ⌝ }
+{
+    let mut n = 0;
+    let mut x = 0;
+    while x < names {
+        x += 1;
+        if marked[x] == 1 {
+            n += 1;
+        }
+    }
+    n
+}
+
 // The lowest name that is not marked, 0 where there is none.
 fn lowest_unmarked(names: usize, marked: &[u8; 33]) -> usize
     requires { ⌜ names ≤ 32 ⌝ }
     ensures { λ r. ⌜ LowestUnmarked names (now (marked .entry)) r ⌝ }
 {
-    let mut x = 1;
-    while x <= names {
-        if marked[x] != 1 {
-            return x;
-        }
+    let mut found = 0;
+    let mut x = 0;
+    while x < names {
         x += 1;
+        if marked[x] != 1 {
+            if found == 0 {
+                found = x;
+            }
+        }
     }
-    0
+    found
 }
 
-// The lowest barren name, or 0.
+// The lowest barren name, or 0: rounds until one marks nothing, or all names are marked.
 pub fn barren(s: &[u8], l: Layout) -> usize
     requires { ⌜ shapely (now s) ≡ true ⌝ }
     requires { ⌜ Laid (now s) l ⌝ }
@@ -129,10 +148,14 @@ pub fn barren(s: &[u8], l: Layout) -> usize
 {
     let mut full = [0u8; 513];
     let mut marked = [0u8; 33];
-    let mut turn = 0;
-    while turn < l.names {
+    let mut known = 0;
+    while known < l.names {
         round(s, l, &mut full, &mut marked);
-        turn += 1;
+        let found = count(l.names, &marked);
+        if found == known {
+            return lowest_unmarked(l.names, &marked);
+        }
+        known = found;
     }
-    lowest_unmarked(l.names, &marked)
+    0
 }

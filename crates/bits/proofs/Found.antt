@@ -81,8 +81,8 @@ module _ (t : List ℕ) (k : ℕ) (u : List ℕ) (j : ℕ) where
       record {
         within = omega arith;
         below = λ y l g.
-          (let s : a + (y - a) ≡ y = omega arith in
-          rw (← s) (both-digit a w d (y - a) q (omega arith) ∙ ap (λ (i : ℕ). eqb (bit i (y - a)) 1) (sym e) ∙ ap (λ (i : ℕ). eqb i 1) (trail-below 64 x (y - a) (omega arith))));
+            (let s : a + (y - a) ≡ y = omega arith in
+            rw (← s) (both-digit a w d (y - a) q (omega arith) ∙ ap (λ (i : ℕ). eqb (bit i (y - a)) 1) (sym e) ∙ ap (λ (i : ℕ). eqb i 1) (trail-below 64 x (y - a) (omega arith))));
         here = λ l. both-digit a w d n q small ∙ ap (λ (i : ℕ). eqb (bit i n) 1) (sym e) ∙ ap (λ (i : ℕ). eqb i 1) at;
         onward = λ l. omega arith;
       }
@@ -101,7 +101,7 @@ module _ (t : List ℕ) (k : ℕ) (u : List ℕ) (j : ℕ) where
       let r = count-digits w m (omega arith) in
       let d : (64 * w + m) % 64 ≡ m = omega arith in
       let e : oneIf (inBoth t k u j (64 * w + m)) ≡ bit (common t k u j w) m =
-        ap oneIf (both-word (64 * w + m) w (omega arith) ∙ ap (λ (i : ℕ). eqb (bit (common t k u j w) i) 1) d) ∙ digit-one (bit (common t k u j w) m) (bit-lt (common t k u j w) m) in
+      ap oneIf (both-word (64 * w + m) w (omega arith) ∙ ap (λ (i : ℕ). eqb (bit (common t k u j w) i) 1) d) ∙ digit-one (bit (common t k u j w) m) (bit-lt (common t k u j w) m) in
       rw (add-suc (64 * w) m) (omega arith)
 
   pub count-none : countTo (inBoth t k u j) (64 * 0) ≡ 0

@@ -2,9 +2,9 @@
 use mathlib.Core.Path.{_≡_, refl, sym, ap, _∙_}
 use mathlib.Core.List.{List}
 use mathlib.Core.Bool.{Bool, true, false, _||_}
-use mathlib.Core.Logic.{_⊎_, inl, inr}
 use Prim.Native.Nat.{ℕ, _+_, _-_, _*_, _/_, _%_, _^_, _≤_, _<_}
-use native.Mathlib.Nat.{eq-zero-or-pos, not-suc-le-zero}
+use native.Mathlib.Nat.{not-suc-le-zero}
+use native.Mathlib.Decide.{ℕ-discrete}
 use native.Mathlib.Omega.{arith}
 use borrow.Author.Tests.{eq-eqb, ne-eqb}
 use lib.ListN.{length, getD, set, length-set}
@@ -13,12 +13,6 @@ use lib.Bits.{bitOr}
 use lib.Dec.{eqb}
 use Rattle.bits.specs.Digits.{bit, test-or, bit-pow-same, bit-pow-other}
 use Rattle.bits.specs.Sets.{inSet, Added, United}
-
-pub same-or-not : (m n : ℕ) → (m ≡ n) ⊎ (m ≡ n → ⊥)
-same-or-not m n = elim (eq-zero-or-pos (m - n)) [
-  | inl x ↦ elim (eq-zero-or-pos (n - m)) [ | inl y ↦ inl (omega arith) | inr y ↦ inr (λ e. omega arith) ]
-  | inr x ↦ inr (λ e. omega arith)
-]
 
 or-false : (a : Bool) {b : Bool} → b ≡ false → a ≡ a || b
 or-false true e = refl
@@ -41,26 +35,28 @@ in-word t k x w e = rw e
 
 -- the digit of place i, and of no other place
 one-place : (i x : ℕ) → x / 64 ≡ i / 64 → eqb (bit (2 ^ (i % 64)) (x % 64)) 1 ≡ eqb i x
-one-place i x e = elim (same-or-not i x) [
-  | inl q ↦ rw q (ap (λ (d : ℕ). eqb d 1) (bit-pow-same (x % 64)) ∙ sym (eq-eqb x x refl))
-  | inr q ↦ (ap (λ (d : ℕ). eqb d 1) (bit-pow-other (i % 64) (x % 64) (λ g. q (omega arith))) ∙ sym (ne-eqb i x q))
+one-place i x e = elim (ℕ-discrete i x) [
+  | yes q ↦ rw q (ap (λ (d : ℕ). eqb d 1) (bit-pow-same (x % 64)) ∙ sym (eq-eqb x x refl))
+  | no q ↦ (ap (λ (d : ℕ). eqb d 1) (bit-pow-other (i % 64) (x % 64) (λ g. q (omega arith))) ∙ sym (ne-eqb i x q))
 ]
 
 module _ (t : List ℕ) (k i : ℕ) (l : length t ≡ 4617) (lk : k ≤ 512) (li : i < 576) where
   pub added : (p : ℕ) → p ≡ 2 ^ (i % 64) → Added t (set t (9 * k + i / 64) (bitOr (getD t (9 * k + i / 64) 0) p)) k i
   added p e = rw e (record {
     size = length-set t n v;
-    into = λ x lx. elim (same-or-not (x / 64) (i / 64)) [
-      | inl q ↦ (stored-here t n v (omega arith) k x (omega arith) ∙ test-or (getD t n 0) (2 ^ (i % 64)) (x % 64) ∙ split x q)
-      | inr q ↦ (stored-apart t n v k x (λ g. q (omega arith)) ∙ or-false (inSet t k x) (ne-eqb i x (λ g. q (ap (λ (y : ℕ). y / 64) (sym g)))))
+    into = λ x lx. elim (ℕ-discrete (x / 64) (i / 64)) [
+      | yes q ↦ (stored-here t n v (omega arith) k x (omega arith) ∙ test-or (getD t n 0) (2 ^ (i % 64)) (x % 64) ∙ split x q)
+      | no q ↦ (stored-apart t n v k x (λ g. q (omega arith)) ∙ or-false (inSet t k x) (ne-eqb i x (λ g. q (ap (λ (y : ℕ). y / 64) (sym g)))))
     ];
     others = λ h x d lx. stored-apart t n v h x (λ g. d (omega arith));
   })
     where
       n : ℕ
       n = 9 * k + i / 64
+
       v : ℕ
       v = bitOr (getD t n 0) (2 ^ (i % 64))
+
       split : (x : ℕ) → x / 64 ≡ i / 64 → eqb (bit (getD t n 0) (x % 64)) 1 || eqb (bit (2 ^ (i % 64)) (x % 64)) 1 ≡ inSet t k x || eqb i x
       split x q = rw (in-word t k x (i / 64) q, one-place i x q)
 
@@ -92,9 +88,9 @@ module _ {old new : List ℕ} {k : ℕ} {u : List ℕ} {j w : ℕ} (l : length o
       → UnitedTo (w + 1) old (set new (9 * k + w) (bitOr (getD new (9 * k + w) 0) y)) k u j
   united-more y d = record {
     size = length-set new n v ∙ h .size;
-    upto = λ x lx. elim (same-or-not (x / 64) w) [
-      | inl q ↦ (stored-here new n v (omega (arith, h .size)) k x (omega arith) ∙ test-or (getD new n 0) y (x % 64) ∙ word x q)
-      | inr q ↦ (stored-apart new n v k x (λ g. q (omega arith)) ∙ h .upto x (omega arith))
+    upto = λ x lx. elim (ℕ-discrete (x / 64) w) [
+      | yes q ↦ (stored-here new n v (omega (arith, h .size)) k x (omega arith) ∙ test-or (getD new n 0) y (x % 64) ∙ word x q)
+      | no q ↦ (stored-apart new n v k x (λ g. q (omega arith)) ∙ h .upto x (omega arith))
     ];
     rest = λ x lx. stored-apart new n v k x (λ g. omega arith) ∙ h .rest x (omega arith);
     others = λ g x e lx. stored-apart new n v g x (λ f. e (omega arith)) ∙ h .others g x e lx;
@@ -102,8 +98,10 @@ module _ {old new : List ℕ} {k : ℕ} {u : List ℕ} {j w : ℕ} (l : length o
     where
       n : ℕ
       n = 9 * k + w
+
       v : ℕ
       v = bitOr (getD new n 0) y
+
       word : (x : ℕ) → x / 64 ≡ w → eqb (bit (getD new n 0) (x % 64)) 1 || eqb (bit y (x % 64)) 1 ≡ inSet old k x || inSet u j x
       word x q = rw (in-word new k x w q, d x q, h .rest x (omega arith))
 
@@ -113,7 +111,7 @@ pub united-more-in : {old new : List ℕ} {k j w : ℕ} → length old ≡ 4617 
 united-more-in {old} {new} {k} {j} {w} l lk lw h = united-more l lk lw h (getD new (9 * j + w) 0) (λ x q. in-word new j x w q ∙ old-word x q)
   where
     old-word : (x : ℕ) → x / 64 ≡ w → inSet new j x ≡ inSet old j x
-    old-word x q = elim (same-or-not j k) [
-      | inl e ↦ rw e (h .rest x (omega arith))
-      | inr e ↦ h .others j x e (omega arith)
+    old-word x q = elim (ℕ-discrete j k) [
+      | yes e ↦ rw e (h .rest x (omega arith))
+      | no e ↦ h .others j x e (omega arith)
     ]

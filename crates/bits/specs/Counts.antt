@@ -2,9 +2,10 @@
 use mathlib.Core.Path.{_≡_, refl}
 use mathlib.Core.List.{List}
 use mathlib.Core.Bool.{Bool, true, false}
-use mathlib.Core.Logic.{_⊎_, inl, inr}
+use mathlib.Core.Logic.{inl, inr}
 use Prim.Native.Nat.{ℕ, zero, suc, _+_, _-_, _≤_, _<_}
 use native.Mathlib.Nat.{not-suc-le-zero, eq-or-lt-of-le, le-of-suc-le-suc, eq-zero-or-pos}
+use native.Mathlib.Decide.{ℕ-discrete}
 use native.Mathlib.Omega.{arith}
 use Rattle.bits.specs.Sets.{inBoth, LowestBoth}
 
@@ -52,16 +53,11 @@ module _ (f : ℕ → Bool) where
   one-counted : (a n : ℕ) → ((x : ℕ) → x < n → (x ≡ a → ⊥) → f x ≡ false) → countTo f n ≤ 1
   unfolding countTo
   one-counted a zero h = omega arith
-  one-counted a (suc n) h = elim (same n a) [
-    | inl q ↦ (let r = none-counted n (λ x l. h x (omega arith) (λ e. omega arith)) in let one = at-most (f n) in omega arith)
-    | inr q ↦ (let r = one-counted a n (λ x l d. h x (omega arith) d) in let e : oneIf (f n) ≡ 0 = rw (h n (omega arith) q) in omega arith)
+  one-counted a (suc n) h = elim (ℕ-discrete n a) [
+    | yes q ↦ (let r = none-counted n (λ x l. h x (omega arith) (λ e. omega arith)) in let one = at-most (f n) in omega arith)
+    | no q ↦ (let r = one-counted a n (λ x l d. h x (omega arith) d) in let e : oneIf (f n) ≡ 0 = rw (h n (omega arith) q) in omega arith)
   ]
     where
-      same : (m k : ℕ) → (m ≡ k) ⊎ (m ≡ k → ⊥)
-      same m k = elim (eq-zero-or-pos (m - k)) [
-        | inl x ↦ elim (eq-zero-or-pos (k - m)) [ | inl y ↦ inl (omega arith) | inr y ↦ inr (λ e. omega arith) ]
-        | inr x ↦ inr (λ e. omega arith)
-      ]
       at-most : (b : Bool) → oneIf b ≤ 1
       at-most true = omega arith
       at-most false = omega arith

@@ -1,6 +1,6 @@
 // Sets of places as the bits of u64 words. A table of 513 sets lies in one array: set `k` is the nine words from word 9 k on, room for places 0 (End) to 575.
 ghost use mathlib.Core.Path.{_≡_};
-ghost use Prim.Native.Nat.{ℕ, _+_, _*_, _/_, _%_, _^_, _<_, _≤_};
+ghost use Prim.Native.Nat.{_+_, _*_, _/_, _%_, _^_, _<_, _≤_};
 ghost use lib.ListN.{getD, length};
 ghost use lib.Bits.{bitAnd};
 ghost use lib.Count.{trailingZeros, ones};

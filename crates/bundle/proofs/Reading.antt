@@ -14,17 +14,8 @@ use Rattle.meaning.specs.Sheet.{need}
 use Rattle.meaning.specs.Bundle.{wordSum, checkWord, blockAt, blockCount, blocksFor, payload, payloadOf, numbers-ok, checks-ok, padding-ok, framed, all-zero}
 use Rattle.bundle.specs.declared.Opened.the-variants.{Sheet}
 use Rattle.bundle.specs.Calls.{OpensBy}
-use Rattle.meaning.specs.Laws.Bools.{either, and-left, and-right, and-both}
+use Rattle.meaning.specs.Laws.Bools.{either, and-left, and-right, and-both, no-left, no-right}
 use Rattle.meaning.specs.Laws.Words.{word-same}
-
--- ---- tests that fail
-
-pub no-left : {a : Bool} (b : Bool) → a ≡ false → a && b ≡ false
-no-left b e = rw e
-
-pub no-right : (a : Bool) {b : Bool} → b ≡ false → a && b ≡ false
-no-right true e = e
-no-right false e = refl
 
 -- ---- stores in place: front stands in the bytes d, and more is stored behind it
 

@@ -4,14 +4,13 @@ use mathlib.Core.Bool.{Bool, true, false}
 use mathlib.Core.List.{List, _++_}
 use Prim.Native.Nat.{ℕ, _+_, _*_, _≤_, _<_}
 use native.Mathlib.Omega.{arith}
-use borrow.Author.Tests.{leb-true, lt-leb}
+use borrow.Author.Tests.{lt-leb}
 use lib.ListN.{length, take, drop, length-append, length-drop}
 use lib.Seq.{take-length}
-use Rattle.meaning.specs.Sheet.{need, sheetOf}
-use Rattle.meaning.specs.Shape.{whole, shaped, shapely}
+use Rattle.meaning.specs.Sheet.{need}
+use Rattle.meaning.specs.Shape.{shapely}
 use Rattle.meaning.specs.Bundle.{payloadOf, framed, sheetIn, blocks, blocksFor}
 use Rattle.meaning.specs.Reply.{read, write, copied-in}
-use Rattle.meaning.specs.Laws.Bools.{and-left}
 use Rattle.meaning.specs.Theorems.Trip.{need-front, read-if, write-if}
 use Rattle.bundle.specs.declared.Opened.{Opened}
 use Rattle.bundle.specs.declared.Opened.the-variants.{Sheet, Refused}
@@ -49,9 +48,6 @@ module _ (lent : List ℕ) {b after : List ℕ} {n : ℕ} (opened : Opens b afte
       ∙ sym (read-if b lent (opened .by .0) (shapes-in ∙ e) (rw need-in l))
 
 -- ---- the writer
-
-pub shapely-long : (s : List ℕ) → shapely s ≡ true → need s ≤ length s
-shapely-long s e = leb-true (need s) (length s) (and-left (whole s) (shaped (sheetOf s)) e)
 
 pub writes-shape : (s lent : List ℕ) → shapely s ≡ false → replied Shape lent ≡ write s lent
 unfolding write

@@ -1,1 +1,2 @@
+-- What a statement asks and gives.
 pub mod Edit

@@ -1,144 +1,29 @@
 -- On a shaped sheet with no tie no type row has one: every row's words stand inside the words of a declared type or a content, so its rivals would be rivals there. By induction on rows, from the last down: a row's user is higher.
-use Prim.Native.Nat.{ℕ, zero, suc, _+_, _-_, _≤_, _<_}
-use mathlib.Core.Path.{_≡_, refl, _∙_}
-use mathlib.Core.Bool.{Bool, true, false, _&&_, _||_, not, cond}
+use Prim.Native.Nat.{ℕ, zero, suc, _+_, _-_, _<_}
+use mathlib.Core.Path.{_≡_, _∙_}
+use mathlib.Core.Bool.{true, _&&_}
 use mathlib.Core.List.{List, [], _∷_, _++_, append-assoc, append-nil, eq-nil-or-concat, concat-eq-append}
-use mathlib.Core.Logic.{_⊎_, inl, inr}
-use native.Mathlib.Nat.{eq-zero-or-pos}
+use mathlib.Core.Logic.{inl, inr}
 use native.Mathlib.Omega.{arith}
-use lib.Dec.{eqb}
-use borrow.Author.Tests.{eqb-true, eq-eqb}
-use Rattle.meaning.specs.Tests.{every, some, total, inTable}
-use Rattle.meaning.specs.Sheet.{Cells, Script, scriptOf, sheetOf}
+use Rattle.meaning.specs.Tests.{inTable}
+use Rattle.meaning.specs.Sheet.{Script, scriptOf}
 use Rattle.meaning.specs.Kinds.{TypeRow, typeForm}
 use Rattle.meaning.specs.Types.{Head}
-use Rattle.meaning.specs.Shape.{shapely, own, hit, hits, typeUses, type-users, users-ok, procedure-hits}
-use Rattle.meaning.specs.Places.{Model, modelForm, Word, w-seq, w-left, w-right, w-more, w-none, first, follows, headAt, rivals, is-declared, tied, Untied, same-head}
-use Rattle.meaning.specs.Laws.Bools.{or-left, or-right, and-left, and-right, and-both, either, not-both}
-use Rattle.meaning.specs.Laws.Tests.{in-table, table-low, table-high, every-at, some-at}
-use Rattle.meaning.specs.Laws.Models.{any-word, first-word, follows-word, same-head-says}
+use Rattle.meaning.specs.Shape.{shapely}
+use Rattle.meaning.specs.Places.{Model, modelForm, Word, w-seq, w-left, w-right, w-more, w-none, first, follows, headAt, Untied}
+use Rattle.meaning.specs.Laws.Bools.{or-left, or-right, and-both}
+use Rattle.meaning.specs.Laws.Tests.{table-high, some-at}
+use Rattle.meaning.specs.Laws.Models.{any-word, first-word, follows-word}
 use Rattle.places.specs.Tables.{modelOf, isRoot}
 use Rattle.places.specs.Firsts.{model-row}
 use Rattle.places.specs.Sheets.{shaped-rows}
-use Rattle.meaning.specs.Laws.Wired.{has}
-use Rattle.meaning.specs.Laws.Apart.{Side, side-lower, word-has, model-placed, model-below, shaped-lower}
-
--- ---- a sum of hits is from somewhere
-
-total-some : (amount : ℕ → ℕ) (n : ℕ) → 1 ≤ total amount n → (i : ℕ) × (1 ≤ i) × (i ≤ n) × (1 ≤ amount i)
-unfolding total
-total-some amount zero h = absurd (omega arith)
-total-some amount (suc n) h = elim (eq-zero-or-pos (amount (suc n))) [
-  | inl e ↦ (let x = total-some amount n (omega arith) in (x .0, x .1, omega (arith, x .2), x .3))
-  | inr p ↦ (suc n, omega arith, omega arith, p)
-]
-
-hit-is : (b : Bool) → 1 ≤ cond b 1 0 → b ≡ true
-hit-is true h = refl
-hit-is false h = absurd (omega arith)
-
--- a row that another row hits is its side, or the content of a label
-data Used (c : Cells) (r : ℕ) : Type 0 where
-  as-side : Side (typeForm c) r → Used c r
-  as-content : c .kind ≡ 4 → c .q ≡ r → Used c r
-
-two-hits : (p q r : ℕ) → 1 ≤ hit r p + hit r q + 0 → (p ≡ r) ⊎ (q ≡ r)
-two-hits p q r h = elim (either (eqb p r)) [
-  | inl e ↦ inl (eqb-true p r e)
-  | inr e ↦ (let g : hit r p ≡ 0 = rw e in inr (eqb-true q r (hit-is (eqb q r) (omega arith))))
-]
-
-abbrev cells : ℕ → ℕ → ℕ → ℕ → Cells
-cells k p q x = record { kind = k; p = p; q = q; r = x }
-
-used-kind : (k p q x r : ℕ) → 1 ≤ hits own r (typeUses (cells k p q x)) (cells k p q x) → Used (cells k p q x) r
-unfolding own Side
-used-kind zero p q x r h = absurd (omega arith)
-used-kind (suc zero) p q x r h = absurd (omega arith)
-used-kind (suc (suc zero)) p q x r h = absurd (omega arith)
-used-kind (suc (suc (suc zero))) p q x r h = absurd (omega arith)
-used-kind (suc (suc (suc (suc zero)))) p q x r h = as-content refl (eqb-true q r (hit-is (eqb q r) (omega arith)))
-used-kind (suc (suc (suc (suc (suc zero))))) p q x r h = as-side (two-hits p q r h)
-used-kind (suc (suc (suc (suc (suc (suc zero)))))) p q x r h = as-side (two-hits p q r h)
-used-kind (suc (suc (suc (suc (suc (suc (suc zero))))))) p q x r h = as-side (eqb-true p r (hit-is (eqb p r) (omega arith)))
-used-kind (suc (suc (suc (suc (suc (suc (suc (suc zero)))))))) p q x r h = absurd (omega arith)
-used-kind (suc (suc (suc (suc (suc (suc (suc (suc (suc k))))))))) p q x r h = absurd (omega arith)
-
-used-row : (c : Cells) (r : ℕ) → 1 ≤ hits own r (typeUses c) c → Used c r
-used-row c r h = used-kind (c .kind) (c .p) (c .q) (c .r) r h
-
--- ---- the user of a row of a shaped sheet
+use Rattle.places.specs.Users.{user-of}
+use Rattle.meaning.specs.Laws.Apart.{Side, side-lower, followed-has, model-placed, model-below, shaped-lower}
+use Rattle.meaning.specs.Theorems.Within.Rows.{one-place}
 
 module _ (s : List ℕ) (e : shapely s ≡ true) where
   abbrev S : Script
   S = scriptOf s
-
-  users-good : users-ok (sheetOf s) ≡ true
-  users-good = search (and-left, and-right) depth 14
-
-  one-user : (r : ℕ) → inTable (S .types) r ≡ true → type-users (sheetOf s) r ≡ 1
-  unfolding users-ok sheetOf
-  one-user r h = eqb-true (type-users (sheetOf s) r) 1 (every-at _ (S .types) (and-left _ _ (and-left _ _ (and-left _ _ users-good))) r (table-low (S .types) r h) (table-high (S .types) r h))
-
-  -- a model that is asked about, or a row of the table with r as its side
-  data Belongs (r : ℕ) : Type 0 where
-    to-none : isRoot s r ≡ true → Belongs r
-    to-row : (i : ℕ) → inTable (S .types) i ≡ true → Side (typeForm (S .typeRow i)) r → Belongs r
-
-  of-row : (r : ℕ) → 1 ≤ total (λ i. hits own r (typeUses (S .typeRow i)) (S .typeRow i)) (S .types) → Belongs r
-  of-row r h = let x = total-some _ (S .types) h in go (x .0) (in-table (S .types) (x .0) (x .1) (x .2)) (x .1) (x .2) (used-row (S .typeRow (x .0)) r (x .3))
-    where
-      go : (i : ℕ) → inTable (S .types) i ≡ true → 1 ≤ i → i ≤ S .types → Used (S .typeRow i) r → Belongs r
-      go i t l m (as-side x) = to-row i t x
-      go i t l m (as-content k q) = to-none (or-right (is-declared S r) (some-at _ (S .types) i l m (and-both (eqb (S .typeRow i .kind) 4) (eqb (S .typeRow i .q) r) (eq-eqb (S .typeRow i .kind) 4 k) (eq-eqb (S .typeRow i .q) r q))))
-
-  of-name : (r : ℕ) → 1 ≤ total (λ x. hit r (S .nameRow x)) (S .names) → Belongs r
-  of-name r h =
-      let x = total-some _ (S .names) h in
-      let g : some (λ x. eqb (S .nameRow x) r) (S .names) ≡ true = some-at _ (S .names) (x .0) (x .1) (x .2) (hit-is (eqb (S .nameRow (x .0)) r) (x .3)) in
-      to-none (search (or-left, or-right))
-
-  four-hits : (a b c d r : ℕ) → 1 ≤ hit r a + hit r b + hit r c + hit r d → eqb a r || eqb b r || eqb c r || eqb d r ≡ true
-  four-hits a b c d r h = go (eqb a r) (eqb b r) (eqb c r) (eqb d r) h
-    where
-      go : (a b c d : Bool) → 1 ≤ cond a 1 0 + cond b 1 0 + cond c 1 0 + cond d 1 0 → a || b || c || d ≡ true
-      go true b c d h = refl
-      go false true c d h = refl
-      go false false true d h = refl
-      go false false false true h = refl
-      go false false false false h = absurd (omega arith)
-
-  of-procedure : (r : ℕ) → 1 ≤ total (λ c. procedure-hits (sheetOf s) r (S .procedureRow c)) (S .procedures) → Belongs r
-  of-procedure r h =
-      let x = total-some _ (S .procedures) h in
-      let c = S .procedureRow (x .0) in
-      let g : some (λ c. eqb (S .procedureRow c .first) r || eqb (S .procedureRow c .second) r || eqb (S .procedureRow c .input) r || eqb (S .procedureRow c .output) r) (S .procedures) ≡ true
-      = some-at _ (S .procedures) (x .0) (x .1) (x .2) (four-hits (c .first) (c .second) (c .input) (c .output) r (x .3)) in
-      to-none (search (or-left, or-right))
-
-  is-a : (r : ℕ) → eqb (S .a) r ≡ true → Belongs r
-  is-a r h = to-none (search (or-left, or-right))
-
-  is-b : (r : ℕ) → eqb (S .b) r ≡ true → Belongs r
-  is-b r h = to-none (search (or-left, or-right))
-
-  belongs : (r : ℕ) → inTable (S .types) r ≡ true → Belongs r
-  unfolding type-users sheetOf
-  belongs r t = go _ _ _ (λ h. of-row r h) (λ h. of-name r h) (λ h. of-procedure r h) (either (eqb (S .a) r)) (one-user r t)
-    where
-      go : (x y z : ℕ) → (1 ≤ x → Belongs r) → (1 ≤ y → Belongs r) → (1 ≤ z → Belongs r) → (eqb (S .a) r ≡ true) ⊎ (eqb (S .a) r ≡ false)
-          → x + y + z + hit r (S .a) + hit r (S .b) ≡ 1 → Belongs r
-      go x y z f g h (inl a) e = is-a r a
-      go x y z f g h (inr a) e = elim (eq-zero-or-pos x) [
-        | inr p ↦ f p
-        | inl p ↦ elim (eq-zero-or-pos y) [
-          | inr q ↦ g q
-          | inl q ↦ elim (eq-zero-or-pos z) [
-            | inr w ↦ h w
-            | inl w ↦ (let n : hit r (S .a) ≡ 0 = rw a in is-b r (hit-is (eqb (S .b) r) (omega arith)))
-          ]
-        ]
-      ]
 
   -- ---- the words of a row stand inside those of a model that is asked about
 
@@ -188,9 +73,9 @@ module _ (s : List ℕ) (e : shapely s ≡ true) where
 
   held-below : (d r : ℕ) → inTable (S .types) r ≡ true → S .types < r + d → Held r
   held-below zero r t l = absurd (omega (arith, table-high (S .types) r t))
-  held-below (suc d) r t l = elim (belongs r t) [
-    | to-none a ↦ held-root r t a
-    | to-row i h x ↦ held-inner r i (inner r i x) (held-below d i h (omega (arith, user-higher r i x)))
+  held-below (suc d) r t l = elim (user-of s e r t) [
+    | inl a ↦ held-root r t a
+    | inr u ↦ held-inner r (u .0) (inner r (u .0) (u .2)) (held-below d (u .0) (u .1) (omega (arith, user-higher r (u .0) (u .2))))
   ]
 
   held : (r : ℕ) → inTable (S .types) r ≡ true → Held r
@@ -207,24 +92,13 @@ module _ (s : List ℕ) (e : shapely s ≡ true) where
     pub behind : (c a b : ℕ) → follows m c a ≡ true → follows m c b ≡ true → head a ≡ head b → a ≡ b
 
   module _ (untied : Untied S) where
-    -- where one of two points holds both, they are not two
-    root-single : (r a b : ℕ) → inTable (S .types) r ≡ true → isRoot s r ≡ true → head a ≡ head b
-        → first (modelOf s r) a && first (modelOf s r) b || some (λ c. follows (modelOf s r) c a && follows (modelOf s r) c b) (S .types) ≡ true → a ≡ b
-    unfolding tied
-    root-single r a b t k h p = elim (either (eqb a b)) [
-      | inl e ↦ eqb-true a b e
-      | inr e ↦ absurd (not-both (some-at (λ r. isRoot s r && rivals (S .typeRow) (S .nameRow) (S .types) (modelOf s r) a b) (S .types) r (table-low (S .types) r t) (table-high (S .types) r t)
-          (and-both (isRoot s r) _ k (and-both (not (eqb a b) && same-head (head a) (head b)) _ (and-both (not (eqb a b)) _ (rw e) (same-head-says (head a) (head b) .1 h)) p))) (untied a b))
-    ]
-
     root-begin : (r a b : ℕ) → inTable (S .types) r ≡ true → isRoot s r ≡ true → head a ≡ head b → first (modelOf s r) a ≡ true → first (modelOf s r) b ≡ true → a ≡ b
-    root-begin r a b t k h p q = root-single r a b t k h (or-left _ (and-both (first (modelOf s r) a) (first (modelOf s r) b) p q))
+    root-begin r a b t k h p q = one-place s e untied r a b (t, k) h (or-left _ (and-both (first (modelOf s r) a) (first (modelOf s r) b) p q))
 
     root-behind : (r c a b : ℕ) → inTable (S .types) r ≡ true → isRoot s r ≡ true → head a ≡ head b → follows (modelOf s r) c a ≡ true → follows (modelOf s r) c b ≡ true → a ≡ b
     root-behind r c a b t k h p q =
-        let w = follows-word (modelOf s r) c a .0 p in
-        let i = word-has (w .2) c (w .0) (a ∷ w .1) refl in
-        root-single r a b t k h (or-right (first (modelOf s r) a && first (modelOf s r) b) (some-at (λ c. follows (modelOf s r) c a && follows (modelOf s r) c b) (S .types) c (model-placed (S .typeRow) (S .nameRow) (shaped-lower s e) r c i)
+        let i = followed-has (modelOf s r) c a p in
+        one-place s e untied r a b (t, k) h (or-right (first (modelOf s r) a && first (modelOf s r) b) (some-at (λ c. follows (modelOf s r) c a && follows (modelOf s r) c b) (S .types) c (model-placed (S .typeRow) (S .nameRow) (shaped-lower s e) r c i)
         (omega (arith, model-below (S .typeRow) (S .nameRow) (shaped-lower s e) r c i, table-high (S .types) r t)) (and-both (follows (modelOf s r) c a) (follows (modelOf s r) c b) p q)))
 
     -- a word of a row that begins with a, inside a word of the root

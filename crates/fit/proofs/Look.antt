@@ -4,12 +4,9 @@ use mathlib.Core.Path.{_≡_, refl}
 use mathlib.Core.List.{List}
 use native.Mathlib.Omega.{arith}
 use lib.ListN.{getD}
-use Rattle.meaning.specs.Sheet.{Cells}
+use Rattle.meaning.specs.Laws.Shaped.{cells}
 use Rattle.bits.specs.Sets.{LowestBoth}
 use Rattle.fit.specs.Fitting.{treeNumber, Looked}
-
-abbrev cells : ℕ → ℕ → ℕ → ℕ → Cells
-cells k p q x = record { kind = k; p = p; q = q; r = x }
 
 pub bool-number : (k p q x : ℕ) → (k ≡ 0 → ⊥) → (k ≡ 1 → ⊥) → k < 4 → 1025 ≡ treeNumber (cells k p q x)
 bool-number zero p q x a b l = absurd (a refl)

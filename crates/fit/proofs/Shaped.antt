@@ -1,27 +1,22 @@
 -- What the rows of a shaped sheet are, for the walk: each forest row is a tree with lower rows for its child and its next, and each place acts as a text, a bool, or a label whose content is a row. Read off the tests of Shape.
 use Prim.Native.Nat.{ℕ, zero, suc, _-_, _≤_, _<_}
 use mathlib.Core.Path.{_≡_, refl}
-use mathlib.Core.Bool.{true, false, _&&_, false≢true}
+use mathlib.Core.Bool.{true, false, false≢true}
 use mathlib.Core.List.{List}
 use mathlib.Core.Logic.{_⊎_, inl, inr}
 use native.Mathlib.Omega.{arith}
 use borrow.Author.Tests.{leb-true, ltb-true}
 use Rattle.meaning.specs.Tests.{inTable}
 use Rattle.meaning.specs.Sheet.{Cells, Script, Grove, Sheet, scriptOf, groveOf, sheetOf}
-use Rattle.meaning.specs.Shape.{shapely, forestUses, wordOk, wordsOk, rows-ok, roots-ok}
+use Rattle.meaning.specs.Shape.{shapely, forestUses, wordOk, wordsOk}
 use Rattle.meaning.specs.Laws.Bools.{and-left, and-right, not-both}
-use Rattle.meaning.specs.Laws.Tests.{in-table, table-high, every-at}
+use Rattle.meaning.specs.Laws.Tests.{in-table, table-high}
 use Rattle.meaning.specs.Laws.Rows.{LowRow, LowRows}
 use Rattle.meaning.specs.Laws.Wired.{has}
-use Rattle.meaning.specs.Laws.Apart.{shaped-labelled}
-use Rattle.barren.specs.Rows.{kind-in, label-row}
-use Rattle.places.specs.Firsts.{PlaceKind}
+use Rattle.meaning.specs.Laws.Shaped.{cells, rows-say, roots, rows-pass, roots-pass}
 use Rattle.places.specs.Users.{has-place}
 use Rattle.places.specs.Tables.{modelOf}
-use Rattle.ties.specs.Heads.{actingAt}
-
-abbrev cells : ℕ → ℕ → ℕ → ℕ → Cells
-cells k p q x = record { kind = k; p = p; q = q; r = x }
+use Rattle.ties.specs.Heads.{actingAt, Acts, acts-as}
 
 -- ---- trees
 
@@ -55,13 +50,7 @@ low-row c r x = record { child = λ h. go (x .sort) h; next = x .next }
     go (a-bool (inr e)) h = absurd (not-both (in-table 3 (c .kind) (omega arith) (omega arith)) h)
     go (a-node e p q) h = q
 
--- ---- places
-
--- what a place acts as, n the number of type rows
-pub data Acts (n : ℕ) (c : Cells) : Type 0 where
-  acts-text : c .kind ≡ 2 → Acts n c
-  acts-bool : c .kind ≡ 3 → Acts n c
-  acts-label : c .kind ≡ 4 → c .p ≤ 1023 → inTable n (c .q) ≡ true → Acts n c
+-- ---- the rows of a sheet
 
 module _ (s : List ℕ) (e : shapely s ≡ true) where
   abbrev S : Script
@@ -70,38 +59,19 @@ module _ (s : List ℕ) (e : shapely s ≡ true) where
   abbrev G : Grove
   G = groveOf s
 
-  rows-good : rows-ok (sheetOf s) ≡ true
-  rows-good = search (and-left, and-right) depth 14
-
-  roots-good : roots-ok (sheetOf s) ≡ true
-  roots-good = search (and-left, and-right) depth 14
-
   pub root-row : G .root ≤ G .rows
-  unfolding roots-ok sheetOf
-  root-row = let h = roots-good in leb-true (G .root) (G .rows) (search (and-left, and-right) depth 14)
+  unfolding sheetOf
+  root-row = roots (sheetOf s) (roots-pass s e) .forest
 
   pub tree-row : (r : ℕ) → 1 ≤ r → r ≤ G .rows → TreeRow (G .row r) r
-  unfolding rows-ok sheetOf
+  unfolding sheetOf
   tree-row r p q =
       let c = G .row r in
-      let h : inTable 4 (c .kind) && wordsOk (sheetOf s) (forestUses c) r c ≡ true = every-at _ (G .rows) rows-good r p q in
+      let h = rows-say (sheetOf s) r (rows-pass s e) (in-table (G .rows) r p q) in
       tree-kind (sheetOf s) (c .kind) (c .p) (c .q) (c .r) r (and-left (inTable 4 (c .kind)) _ h) (and-right (inTable 4 (c .kind)) _ h)
 
   pub low-rows : (n : ℕ) → n ≤ G .rows → LowRows (G .row) n
   low-rows n l r p q = low-row (G .row r) r (tree-row r p (omega arith))
 
-  -- a row of kind 4 has a label and a content
-  label-acts : (i : ℕ) → S .typeRow i .kind ≡ 4 → Acts (S .types) (S .typeRow i)
-  label-acts i k =
-      let h = kind-in s i 3 k in
-      let x = label-row s e i h k in
-      acts-label k (x .0) (in-table (S .types) (S .typeRow i .q) (x .1 .low) (omega (arith, x .1 .lower, table-high (S .types) i h)))
-
   pub acts : (k a : ℕ) → has (modelOf s k) a ≡ true → Acts (S .types) (actingAt s a)
-  acts k a h = go (has-place s e k a h)
-    where
-      go : PlaceKind (S .typeRow a .kind) → Acts (S .types) (actingAt s a)
-      go (inl x) = rw x (acts-text x)
-      go (inr (inl x)) = rw x (acts-bool x)
-      go (inr (inr (inl x))) = rw x (label-acts a x)
-      go (inr (inr (inr x))) = rw x (label-acts (S .nameRow (S .typeRow a .p)) (shaped-labelled s e a x))
+  acts k a h = acts-as s e a (has-place s e k a h)

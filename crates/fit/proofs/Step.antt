@@ -2,50 +2,40 @@
 use Prim.Native.Nat.{ℕ, zero, suc, _≤_, _<_}
 use mathlib.Core.Path.{_≡_, refl, sym, _∙_, ap}
 use mathlib.Core.Bool.{Bool, true, false, _&&_, _||_, cond}
-use mathlib.Core.List.{List, [], _∷_, _++_, append-assoc}
+use mathlib.Core.List.{List, []}
 use mathlib.Core.Logic.{inl, inr}
 use native.Mathlib.Omega.{arith}
-use lib.Dec.{eqb}
+use lib.Dec.{eqb, ltb}
 use lib.ListN.{getD}
 use borrow.Author.Tests.{eqb-true, eq-eqb, ne-eqb, lt-ltb}
 use Rattle.meaning.specs.Tests.{inTable}
 use Rattle.meaning.specs.Sheet.{Cells, scriptOf, groveOf}
 use Rattle.meaning.specs.Forest.{Tree, cons, treeForm}
 use Rattle.meaning.specs.Types.{Head}
-use Rattle.meaning.specs.Places.{Model, nullable, first, last, follows, start, next, headOf, headAt, Admits}
-use Rattle.meaning.specs.Laws.Bools.{or-cases, and-left, and-right, and-both, not-both}
+use Rattle.meaning.specs.Places.{Model, nullable, first, follows, start, next, headOf, headAt, Admits}
+use Rattle.meaning.specs.Laws.Bools.{and-left, and-right, and-both, not-both}
 use Rattle.meaning.specs.Laws.Tests.{in-table, table-high}
 use Rattle.meaning.specs.Laws.Rows.{forestAt-suc}
-use Rattle.meaning.specs.Laws.Models.{follows-word}
 use Rattle.meaning.specs.Laws.Wired.{has}
-use Rattle.meaning.specs.Laws.Apart.{word-has, model-placed, model-below, shaped-lower}
-use Rattle.barren.specs.Rows.{few-types}
+use Rattle.meaning.specs.Laws.Apart.{first-has, follows-has, model-placed, model-below, shaped-lower}
+use Rattle.meaning.specs.Laws.Points.{has-first, has-follows}
+use Rattle.meaning.specs.Laws.Shaped.{few-types}
 use Rattle.bits.specs.Sets.{inSet}
 use Rattle.sheet.specs.declared.Layout.{Layout}
-use Rattle.places.specs.Firsts.{first-has}
 use Rattle.places.specs.Tables.{modelOf}
-use Rattle.ties.specs.Heads.{actingAt, headNumber}
+use Rattle.ties.specs.Heads.{actingAt, headNumber, Acts, acts-text, acts-bool, acts-label}
 use Rattle.fit.specs.Fitting.{treeNumber, Looked, point, treesAt, GoesOn, Inside, Ready, Walks, Walking}
-use Rattle.fit.proofs.Held.{Single, single}
-use Rattle.fit.proofs.Shaped.{Sort, a-text, a-bool, a-node, Acts, acts-text, acts-bool, acts-label, tree-row, low-rows, acts}
+use Rattle.fit.proofs.Held.{single}
+use Rattle.fit.proofs.Shaped.{Sort, a-text, a-bool, a-node, tree-row, low-rows, acts}
 use Rattle.fit.proofs.Heads.{treeHead, numberOf, Small, small-number, one-head, place-number, place-small, tree-number, tree-small, fits-head, fits-inside, head-fits}
 
 -- ---- what stands at a point is a place
 
 start-first : (m : Model) (b : ℕ) → 1 ≤ b → start m b ≡ true → first m b ≡ true
-start-first m b l h = elim (or-cases (first m b) (nullable m && eqb 0 b) h) [
-  | inl x ↦ x
-  | inr x ↦ absurd (omega (arith, eqb-true 0 b (and-right (nullable m) (eqb 0 b) x)))
-]
+start-first m b l h = has-first m b (and-both (ltb 0 b) (start m b) (lt-ltb 0 b l) h)
 
 next-follows : (m : Model) (a b : ℕ) → 1 ≤ b → next m a b ≡ true → follows m a b ≡ true
-next-follows m a b l h = elim (or-cases (follows m a b) (last m a && eqb 0 b) h) [
-  | inl x ↦ x
-  | inr x ↦ absurd (omega (arith, eqb-true 0 b (and-right (last m a) (eqb 0 b) x)))
-]
-
-follows-has : (m : Model) (a b : ℕ) → follows m a b ≡ true → has m b ≡ true
-follows-has m a b e = let x = follows-word m a b .0 e in word-has (x .2) b (x .0 ++ a ∷ []) (x .1) (sym (append-assoc (x .0) (a ∷ []) (b ∷ x .1)))
+next-follows m a b l h = has-follows m a b (and-both (ltb 0 b) (next m a b) (lt-ltb 0 b l) h)
 
 -- a place with a label's number has a content
 content-row : (n : ℕ) (d : Cells) → Acts n d → numberOf (headOf d) ≤ 1023 → (d .kind ≡ 4) × (inTable n (d .q) ≡ true)

@@ -5,13 +5,14 @@ use mathlib.Core.Bool.{Bool, true, false, not, cond, false≢true}
 use mathlib.Core.List.{List}
 use mathlib.Core.Logic.{_↔_}
 use native.Mathlib.Omega.{arith}
+use borrow.Author.Tests.{not-true, not-false}
 use lib.Dec.{eqb}
 use lib.ListN.{getD}
 use Rattle.meaning.specs.Sheet.{Cells, groveOf}
 use Rattle.meaning.specs.Places.{Model, Admits}
 use Rattle.meaning.specs.Laws.Rows.{forestAt-zero}
 use Rattle.meaning.specs.Laws.Wired.{has}
-use Rattle.barren.specs.Rows.{few-types}
+use Rattle.meaning.specs.Laws.Shaped.{few-types}
 use Rattle.bits.specs.Sets.{inSet}
 use Rattle.sheet.specs.Laid.{cellsOf}
 use Rattle.sheet.specs.declared.Layout.{Layout}
@@ -104,15 +105,7 @@ module _ {s : List ℕ} {l : Layout} {null firsts behind class same : List ℕ} 
           }
 
           pub filled : (x : Bool) → x ≡ true ↔ Inside s (c .q) (d .q) → not x ≡ false → Filled
-          filled x i e y = rw content-is at (i .0 (held x e))
-            where
-              held : (x : Bool) → not x ≡ false → x ≡ true
-              held true e = refl
-              held false e = absurd (false≢true (sym e))
+          filled x i e y = rw content-is at (i .0 (not-false x e))
 
           pub outside : (x : Bool) → x ≡ true ↔ Inside s (c .q) (d .q) → not x ≡ true → false ≡ true ↔ Inside s r₀ k
-          outside x i e = (λ y. absurd (false≢true y), λ y. fails x e (i .1 (rw (child-is, content-is) (step.taken-on R W Y z here n (Y .on y) .0 (sym kind-is ∙ K)))))
-            where
-              fails : (x : Bool) → not x ≡ true → x ≡ true → false ≡ true
-              fails true e h = e
-              fails false e h = h
+          outside x i e = (λ y. absurd (false≢true y), λ y. sym (not-true x e) ∙ i .1 (rw (child-is, content-is) (step.taken-on R W Y z here n (Y .on y) .0 (sym kind-is ∙ K))))

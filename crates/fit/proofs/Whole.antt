@@ -7,7 +7,7 @@ use mathlib.Core.Logic.{inl, inr, _↔_, Iff·trans}
 use native.Mathlib.Omega.{arith}
 use lib.Dec.{eqb}
 use lib.ListN.{set, replicate, length-replicate}
-use borrow.Author.Tests.{eq-eqb, lt-ltb}
+use borrow.Author.Tests.{eq-eqb, lt-ltb, not-true, not-false}
 use Rattle.meaning.specs.Tests.{inTable}
 use Rattle.meaning.specs.Sheet.{row3, scriptOf, groveOf, types-of}
 use Rattle.meaning.specs.Forest.{forestOf}
@@ -20,7 +20,7 @@ use Rattle.meaning.specs.Laws.Tests.{in-table, table-low, table-high, some-at}
 use Rattle.meaning.specs.Laws.Wired.{wired-next, ends}
 use Rattle.meaning.specs.Theorems.Places.{places-say}
 use Rattle.barren.specs.Flags.{flag, flag-set}
-use Rattle.barren.specs.Rows.{kind-in, label-row, few-types}
+use Rattle.meaning.specs.Laws.Shaped.{kind-in, label-row, few-types}
 use Rattle.sheet.specs.Laid.{Laid, outside-low, outside-high}
 use Rattle.sheet.specs.declared.Layout.{Layout}
 use Rattle.places.specs.Sheets.{laid-tables, laid-free, laid-wires}
@@ -56,7 +56,7 @@ module _ (s : List ℕ) (e : shapely s ≡ true) where
     content-nexts : (i : ℕ) → scriptOf s .typeRow i .kind ≡ 4 → Nexts behind (modelOf s (scriptOf s .typeRow i .q))
     content-nexts i k =
         let h = kind-in s i 3 k in
-        let x = label-row s e i h k .1 in
+        let x = label-row s e i k .1 in
         let q = scriptOf s .typeRow i .q in
         let u : q < 513 = omega (arith, x .lower, table-high (scriptOf s .types) i h, few-types s e) in
         nexts (laid-wires laid wires) q (x .low) (omega (arith, x .lower, table-high (scriptOf s .types) i h, types-is laid)) (rooted .at q u ∙ content-asked i k)
@@ -106,11 +106,7 @@ module _ (s : List ℕ) (e : shapely s ≡ true) where
 -- ---- the answer
 
 pub is-shaped : (s : List ℕ) (b : Bool) → b ≡ shapely s → not b ≡ false → shapely s ≡ true
-is-shaped s b x y = sym x ∙ go b y
-  where
-    go : (b : Bool) → not b ≡ false → b ≡ true
-    go true y = refl
-    go false y = sym y
+is-shaped s b x y = sym x ∙ not-false b y
 
 pub untied-of : {s : List ℕ} → Loads s done → Untied (scriptOf s)
 untied-of (sound e b u) = u
@@ -122,13 +118,9 @@ loads-as e x = rw e at x
 module _ (s : List ℕ) (told : ℕ) where
   pub not-shaped : (b : Bool) → b ≡ shapely s → not b ≡ true → Fitted s told (refused shape)
   not-shaped b x y = elim (either (inTable (scriptOf s .types) told)) [
-    | inl t ↦ unsound t (misshapen (sym x ∙ go b y))
+    | inl t ↦ unsound t (misshapen (sym x ∙ not-true b y))
     | inr t ↦ no-row t
   ]
-    where
-      go : (b : Bool) → not b ≡ true → b ≡ false
-      go true y = sym y
-      go false y = refl
 
   pub no-told : told ≡ 0 → Fitted s told (refused shape)
   no-told e = no-row (outside-low (scriptOf s .types) told e)

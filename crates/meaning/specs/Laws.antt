@@ -9,8 +9,10 @@ pub mod Points
 pub mod Models
 pub mod Words
 pub mod Rows
+pub mod Shaped
 pub mod Wired
 pub mod Sure
 pub mod Apart
 pub mod Passes
 pub mod Scoped
+pub mod Agree

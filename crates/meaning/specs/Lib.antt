@@ -1,3 +1,4 @@
+-- Document 01 as definitions, one idea a file; Laws and Theorems prove that they hang together. README.md gives an order to read them in.
 pub mod Tests
 pub mod Limits
 pub mod Words

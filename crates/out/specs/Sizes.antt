@@ -11,8 +11,9 @@ use lib.Seq.{getD-set-same, getD-set-other}
 use Rattle.meaning.specs.Tests.{inTable}
 use Rattle.meaning.specs.Sheet.{Cells}
 use Rattle.meaning.specs.Forest.{Tree, Forest, cons, textAt, treeForm, forestAt, treeSize, forestSize}
-use Rattle.meaning.specs.Laws.Rows.{LowRows, forestAt-zero, forestAt-suc}
+use Rattle.meaning.specs.Laws.Rows.{LowRows, node-form, forestAt-zero, forestAt-suc}
 use Rattle.meaning.specs.Laws.Tests.{table-high}
+use Rattle.meaning.specs.Laws.Words.{zeros}
 use Rattle.meaning.specs.Theorems.ReadBack.{lentRow}
 
 -- the most that is counted
@@ -40,21 +41,11 @@ kind-leaf byte p q (suc (suc zero)) f e = refl
 kind-leaf byte p q (suc (suc (suc zero))) f e = refl
 kind-leaf byte p q (suc (suc (suc (suc k)))) f e = absurd (omega (arith, table-high 3 (suc (suc (suc (suc k)))) e))
 
-kind-node : (byte : ℕ → ℕ) (p q k : ℕ) (f : Forest) → inTable 3 k ≡ false → getD (Tree.node p f ∷ Tree.text (textAt byte p q) ∷ Tree.bool false ∷ Tree.bool true ∷ []) k (Tree.node p f) ≡ Tree.node p f
-kind-node byte p q zero f e = refl
-kind-node byte p q (suc zero) f e = absurd (false≢true (sym e))
-kind-node byte p q (suc (suc zero)) f e = absurd (false≢true (sym e))
-kind-node byte p q (suc (suc (suc zero))) f e = absurd (false≢true (sym e))
-kind-node byte p q (suc (suc (suc (suc k)))) f e = refl
-
 -- the forest at row r, whose words are c: its first tree, and the rest
 pub parted : (byte : ℕ → ℕ) (rows : List ℕ) (r : ℕ) (c : Cells) → c ≡ lentRow rows r → 0 < r → LowRows (lentRow rows) r
     → lentForest byte rows r ≡ cons (treeForm byte c (lentForest byte rows (c .q))) (lentForest byte rows (c .r))
 parted byte rows zero c e h low = absurd (omega arith)
 parted byte rows (suc r) c e h low = rw e (forestAt-suc byte (lentRow rows) r low)
-
-pub as-node : (byte : ℕ → ℕ) (c : Cells) (f : Forest) → inTable 3 (c .kind) ≡ false → treeForm byte c f ≡ Tree.node (c .p) f
-as-node byte c f e = kind-node byte (c .p) (c .q) (c .kind) f e
 
 module _ (byte : ℕ → ℕ) (rows : List ℕ) (r : ℕ) (c : Cells) (is : c ≡ lentRow rows r) (h : 0 < r) (low : LowRows (lentRow rows) r) where
   -- kinds 1 to 3 have no child
@@ -65,7 +56,7 @@ module _ (byte : ℕ → ℕ) (rows : List ℕ) (r : ℕ) (c : Cells) (is : c �
   -- every other kind is a node
   pub size-node : inTable 3 (c .kind) ≡ false → forestSize (lentForest byte rows r) ≡ forestSize (lentForest byte rows (c .r)) + suc (forestSize (lentForest byte rows (c .q)))
   unfolding forestSize treeSize
-  size-node e = ap forestSize (parted byte rows r c is h low) ∙ ap (λ (t : Tree). forestSize (cons t (lentForest byte rows (c .r)))) (as-node byte c (lentForest byte rows (c .q)) e)
+  size-node e = ap forestSize (parted byte rows r c is h low) ∙ ap (λ (t : Tree). forestSize (cons t (lentForest byte rows (c .r)))) (node-form byte c (lentForest byte rows (c .q)) e)
 
 -- ---- counting up
 
@@ -103,11 +94,6 @@ pub record Blank (sizes : List ℕ) : Type 0 where
 
 pub blank-zeros : Blank (replicate 6145 0)
 blank-zeros = record { zeros = zeros 6145; full = length-replicate {A = ℕ} 6145 0 }
-  where
-    zeros : (n r : ℕ) → _≡_ {A = ℕ} (getD (replicate n 0) r 0) 0
-    zeros zero r = refl
-    zeros (suc n) zero = refl
-    zeros (suc n) (suc r) = zeros n r
 
 -- but the empty forest
 pub below-one : (rows sizes : List ℕ) → getD sizes 0 0 ≡ 0 → Below rows 1 sizes

@@ -11,11 +11,11 @@ use Rattle.meaning.specs.Words.{bytesOf}
 use Rattle.meaning.specs.Sheet.{Cells}
 use Rattle.meaning.specs.Forest.{Tree, Forest, nil, cons, textAt, treeForm, treeSize, forestSize, rootAfter, treeRows, forestRows, rowBytes}
 use Rattle.meaning.specs.Reply.{given}
-use Rattle.meaning.specs.Laws.Rows.{LowRows, forestAt-zero, forestAt-suc}
+use Rattle.meaning.specs.Laws.Rows.{LowRows, node-form, forestAt-zero, forestAt-suc}
 use Rattle.meaning.specs.Laws.Tests.{in-table}
-use Rattle.meaning.specs.Theorems.ReadBack.{lentRow}
+use Rattle.meaning.specs.Theorems.ReadBack.{lentRow, forest-length}
 use Rattle.words.specs.Puts.{putWord}
-use Rattle.out.specs.Sizes.{lentForest, Below, parted, as-node, size-leaf, size-node}
+use Rattle.out.specs.Sizes.{lentForest, Below, parted, size-leaf, size-node}
 
 -- the rows behind row a, up to row b, are these; all else is as it was
 abbrev pub replaced : ℕ → List Cells → ℕ → List ℕ → List ℕ
@@ -25,19 +25,6 @@ pub bytes-append : (l m : List Cells) → rowBytes (l ++ m) ≡ rowBytes l ++ ro
 unfolding rowBytes
 bytes-append [] m = refl
 bytes-append (c ∷ l) m = rw (bytes-append l m, append-assoc)
-
-mutual
-  unfolding treeRows treeSize forestRows forestSize
-
-  tree-length : (n : ℕ) (t : Tree) (next : ℕ) → length (treeRows n t next) ≡ treeSize t
-  tree-length n (Tree.text w) next = refl
-  tree-length n (Tree.bool b) next = refl
-  tree-length n (Tree.node l f) next = simp length-append (omega (arith, forest-length n f))
-
-  -- a forest has as many rows as its size
-  pub forest-length : (n : ℕ) (f : Forest) → length (forestRows n f) ≡ forestSize f
-  forest-length n nil = refl
-  forest-length n (cons t f) = simp length-append (omega (arith, forest-length n f, tree-length (n + forestSize f) t (rootAfter n f)))
 
 pub bytes-length : (l : List Cells) → length (rowBytes l) ≡ 8 * length l
 unfolding rowBytes bytesOf
@@ -234,7 +221,7 @@ module _ {work sizes result : List ℕ} {r n : ℕ} (x : Writable work sizes res
       let low : last ≡ rootAfter behind f = inner ∙ root-of byte work (c .q) behind own (y .low) (sym top) in
       h ∙ ap (replaced own (record { kind = 4; p = c .p; q = last; r = after } ∷ []) (own + 1)) (child byte)
       ∙ rw (top, replaced-behind behind (forestRows behind f) own (record { kind = 4; p = c .p; q = last; r = after } ∷ []) (own + 1) result long (omega arith) (omega (arith, x .room, node-size e)))
-      (rw (← rest-root byte (rw be at root), rest-exact byte, ← be, as-node byte c f e, past, low)))
+      (rw (← rest-root byte (rw be at root), rest-exact byte, ← be, node-form byte c f e, past, low)))
 
 -- ---- the forest, from its first tree to its last
 

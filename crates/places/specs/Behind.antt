@@ -12,19 +12,15 @@ use Rattle.meaning.specs.Tests.{inTable}
 use Rattle.meaning.specs.Sheet.{Cells}
 use Rattle.meaning.specs.Kinds.{TypeRow}
 use Rattle.meaning.specs.Places.{Set, modelForm, nullable, first}
-use Rattle.meaning.specs.Laws.Bools.{either, not-both}
+use Rattle.meaning.specs.Laws.Bools.{or-false, and-false, either, not-both}
 use Rattle.meaning.specs.Laws.Tests.{in-table, table-high}
-use Rattle.meaning.specs.Laws.Wired.{or-false, Wired, ends, starting, turning}
+use Rattle.meaning.specs.Laws.Wired.{Wired, ends, starting, turning}
 use Rattle.meaning.specs.Laws.Apart.{Side, Distinct, View, v-none, v-empty, v-text, v-bool, v-label, v-seq, v-choice, v-star, v-name, view}
 use Rattle.bits.specs.Sets.{inSet, Added, United}
 use Rattle.barren.specs.Flags.{flag}
-use Rattle.barren.specs.Rows.{Part}
+use Rattle.meaning.specs.Laws.Shaped.{Part}
 use Rattle.places.specs.Tables.{rowForm, rowModel, Rows, setOf, Clear, Tables, Down, Passed, Ready, Fell, Ended, Falling, Free, Wires}
 use Rattle.places.specs.Firsts.{model-row, side-part, seq-row, choice-row, star-row, first-below}
-
-pub and-none : (a : Bool) → a && false ≡ false
-and-none true = refl
-and-none false = refl
 
 pub or-or : (a b c : Bool) → a || b || c ≡ a || (b || c)
 or-or true b c = refl
@@ -244,7 +240,7 @@ module _ {row : ℕ → Cells} {n : ℕ} (R : Rows row n) (root : List ℕ) (top
             let x = seq-row R r c in
             let v = row r .q in (
               again _ (x .0) (starting (rowModel row v) k) (λ b. wide (row r .p) (λ b. first (rowModel row v) b || nullable (rowModel row v) && setOf t r b)
-                  (λ b l. d .0 b l ∙ rw (near r b l)) (λ b l. rw (past v (omega (arith, x .1 .lower)) b l, far r b l, and-none (nullable (rowModel row v)))) b ∙ rw (h b)),
+                  (λ b l. d .0 b l ∙ rw (near r b l)) (λ b l. rw (past v (omega (arith, x .1 .lower)) b l, far r b l, and-false (nullable (rowModel row v)))) b ∙ rw (h b)),
               again _ (x .1) k (λ b. wide v (setOf t r) (λ b l. d .1 b l ∙ sym (near r b l)) (far r) b ∙ h b),
             )
         go (v-choice c) d again =

@@ -12,14 +12,13 @@ use borrow.Author.Tests.{ltb-true, ltb-false}
 use Rattle.meaning.specs.Tests.{inTable}
 use Rattle.meaning.specs.Sheet.{Cells}
 use Rattle.meaning.specs.Kinds.{TypeRow, typeForm}
-use Rattle.meaning.specs.Places.{Model, modelForm, nullable, first}
-use Rattle.meaning.specs.Laws.Bools.{or-left, or-right, or-cases, and-right, either}
+use Rattle.meaning.specs.Places.{modelForm, nullable, first}
+use Rattle.meaning.specs.Laws.Bools.{or-false, either}
 use Rattle.meaning.specs.Laws.Tests.{table-low, table-high}
-use Rattle.meaning.specs.Laws.Wired.{has, or-false}
-use Rattle.meaning.specs.Laws.Apart.{View, v-none, v-empty, v-text, v-bool, v-label, v-seq, v-choice, v-star, v-name, view, Side, side-lower, modelAt-row, model-below}
+use Rattle.meaning.specs.Laws.Apart.{View, v-none, v-empty, v-text, v-bool, v-label, v-seq, v-choice, v-star, v-name, view, Side, side-lower, modelAt-row, model-below, first-has}
+use Rattle.meaning.specs.Laws.Shaped.{Part}
 use Rattle.bits.specs.Sets.{inSet, Added, United}
 use Rattle.barren.specs.Flags.{flag, flag-set, flag-kept}
-use Rattle.barren.specs.Rows.{Part}
 use Rattle.places.specs.Tables.{rowForm, rowModel, Rows, setOf, Clear, Nulls, Firsts, Tables}
 
 -- rows of kind 2, 3, 4 and 8 are places
@@ -28,21 +27,6 @@ PlaceKind k = (k ≡ 2) ⊎ ((k ≡ 3) ⊎ ((k ≡ 4) ⊎ (k ≡ 8)))
 
 pub place-kind : (k : ℕ) → 2 ≤ k → k < 5 → PlaceKind k
 place-kind k l h = elim (ℕ-discrete k 2) [ yes z ↦ inl z | no z ↦ elim (ℕ-discrete k 3) [ yes y ↦ inr (inl y) | no y ↦ inr (inr (inl (omega arith))) ] ]
-
--- what stands first in a model occurs in it
-pub first-has : (m : Model) (a : ℕ) → first m a ≡ true → has m a ≡ true
-unfolding first has
-first-has Model.empty a e = e
-first-has (Model.atom b) a e = e
-first-has (Model.seq m n) a e = elim (or-cases (first m a) (nullable m && first n a) e) [
-  | inl h ↦ or-left (has n a) (first-has m a h)
-  | inr h ↦ or-right (has m a) (first-has n a (and-right (nullable m) (first n a) h))
-]
-first-has (Model.choice m n) a e = elim (or-cases (first m a) (first n a) e) [
-  | inl h ↦ or-left (has n a) (first-has m a h)
-  | inr h ↦ or-right (has m a) (first-has n a h)
-]
-first-has (Model.star m) a e = first-has m a e
 
 module _ {row : ℕ → Cells} {n : ℕ} (R : Rows row n) where
   pub few-rows : {i : ℕ} → i ≤ n → i ≤ 512

@@ -11,7 +11,7 @@ use lib.ListN.{length, set, length-set}
 use borrow.Author.Tests.{eq-eqb, ne-eqb}
 use Rattle.meaning.specs.Tests.{some}
 use Rattle.meaning.specs.Sheet.{Cells, Procedure, row3, scriptOf}
-use Rattle.meaning.specs.Laws.Wired.{or-false}
+use Rattle.meaning.specs.Laws.Bools.{or-false}
 use Rattle.sheet.specs.declared.Layout.{Layout}
 use Rattle.sheet.specs.Laid.{Laid}
 use Rattle.barren.specs.Flags.{flag, flag-set, flag-kept}

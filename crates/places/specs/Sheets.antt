@@ -8,10 +8,10 @@ use native.Mathlib.Omega.{arith}
 use Rattle.meaning.specs.Sheet.{row3, scriptOf}
 use Rattle.meaning.specs.Kinds.{TypeRow}
 use Rattle.meaning.specs.Shape.{shapely}
+use Rattle.meaning.specs.Laws.Shaped.{seq-row, choice-row, star-row, few-types}
 use Rattle.meaning.specs.Laws.Apart.{Side, View, v-seq, v-choice, v-star, view, shaped-lower, shaped-once}
 use Rattle.sheet.specs.declared.Layout.{Layout}
 use Rattle.sheet.specs.Laid.{Laid}
-use Rattle.barren.specs.Rows.{kind-in, seq-row, choice-row, star-row, few-types}
 use Rattle.places.specs.Tables.{rowForm, Rows, Tables, Free, Wires}
 
 module _ (s : List ℕ) (e : shapely s ≡ true) where
@@ -20,11 +20,11 @@ module _ (s : List ℕ) (e : shapely s ≡ true) where
   side-low i j x = go (view (scriptOf s .typeRow i)) x
     where
       go : {t : TypeRow} → View (scriptOf s .typeRow i) t → Side t j → 1 ≤ j
-      go (v-seq k) (inl z) = rw z at (seq-row s e i (kind-in s i 4 k) k .0 .low)
-      go (v-seq k) (inr z) = rw z at (seq-row s e i (kind-in s i 4 k) k .1 .low)
-      go (v-choice k) (inl z) = rw z at (choice-row s e i (kind-in s i 5 k) k .0 .low)
-      go (v-choice k) (inr z) = rw z at (choice-row s e i (kind-in s i 5 k) k .1 .low)
-      go (v-star k) z = rw z at (star-row s e i (kind-in s i 6 k) k .low)
+      go (v-seq k) (inl z) = rw z at (seq-row s e i k .0 .low)
+      go (v-seq k) (inr z) = rw z at (seq-row s e i k .1 .low)
+      go (v-choice k) (inl z) = rw z at (choice-row s e i k .0 .low)
+      go (v-choice k) (inr z) = rw z at (choice-row s e i k .1 .low)
+      go (v-star k) z = rw z at (star-row s e i k .low)
 
   pub shaped-rows : Rows (scriptOf s .typeRow) (scriptOf s .types)
   shaped-rows = record { few = few-types s e; lower = shaped-lower s e; once = shaped-once s e; low = side-low }

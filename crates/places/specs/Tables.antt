@@ -13,7 +13,8 @@ use Rattle.meaning.specs.Laws.Wired.{Wired, ends}
 use Rattle.meaning.specs.Laws.Apart.{Side, Lower, Once}
 use Rattle.bits.specs.Sets.{inSet}
 use Rattle.bits.specs.Digits.{bit-none}
-use Rattle.barren.specs.Flags.{flag, zeros}
+use Rattle.meaning.specs.Laws.Words.{zeros}
+use Rattle.barren.specs.Flags.{flag}
 
 abbrev pub rowForm : (ℕ → Cells) → ℕ → TypeRow
 rowForm row i = typeForm (row i)

@@ -1,10 +1,10 @@
 -- Each type row of a shaped sheet has one user: a side of a row is neither a declared type nor a content, and from every row the users lead up to one that is. What a model has is a place.
 use Prim.Native.Nat.{ℕ, zero, suc, _+_, _≤_, _<_}
 use mathlib.Core.Path.{_≡_, refl, _∙_}
-use mathlib.Core.Bool.{true, false, _&&_, _||_, false≢true}
+use mathlib.Core.Bool.{true, false, _&&_, _||_}
 use mathlib.Core.List.{List}
 use mathlib.Core.Logic.{_⊎_, inl, inr}
-use native.Mathlib.Decide.{decLe, decLt}
+use native.Mathlib.Decide.{decLe}
 use native.Mathlib.Omega.{arith}
 use lib.Dec.{eqb}
 use lib.ListN.{set, replicate}
@@ -12,60 +12,26 @@ use borrow.Author.Tests.{eqb-true, eq-eqb}
 use Rattle.meaning.specs.Tests.{some, total, inTable}
 use Rattle.meaning.specs.Sheet.{Cells, Procedure, scriptOf, sheetOf}
 use Rattle.meaning.specs.Kinds.{TypeRow, typeForm}
-use Rattle.meaning.specs.Shape.{shapely, users-ok, typeUses, hit, hits, own, type-users, procedure-hits}
-use Rattle.meaning.specs.Places.{modelForm, model, modelAt, is-declared, is-content}
+use Rattle.meaning.specs.Shape.{shapely, hit, own, type-users, procedure-hits}
+use Rattle.meaning.specs.Places.{modelForm, modelAt, is-declared, is-content}
 use Rattle.meaning.specs.Laws.Bools.{or-left, or-right, or-cases, and-left, and-right, either}
-use Rattle.meaning.specs.Laws.Tests.{in-table, table-low, table-high, every-at, some-at, some-of, total-at, total-two}
+use Rattle.meaning.specs.Laws.Tests.{in-table, table-low, table-high, some-at, some-of, total-at, total-both, total-some}
 use Rattle.meaning.specs.Laws.Wired.{has}
-use Rattle.meaning.specs.Laws.Apart.{Side, View, v-none, v-empty, v-text, v-bool, v-label, v-seq, v-choice, v-star, v-name, view}
+use Rattle.meaning.specs.Laws.Apart.{Side, view, type-hits, hit-one, side-hit, AtomKind, a-text, a-bool, a-label, a-name, atom-kind}
 use Rattle.barren.specs.Flags.{flag-kept, unset}
-use Rattle.barren.specs.Rows.{Part, few-types}
+use Rattle.meaning.specs.Laws.Shaped.{cells, Part, few-types, one-user}
 use Rattle.places.specs.Tables.{rowForm, modelOf, isRoot, Free, Rooted}
 use Rattle.places.specs.Firsts.{PlaceKind, model-row, side-part}
 use Rattle.places.specs.Sheets.{shaped-rows}
 
--- ---- sums
-
-total-some : (f : ℕ → ℕ) (n : ℕ) → 1 ≤ total f n → (r : ℕ) × (1 ≤ r) × (r ≤ n) × (1 ≤ f r)
-unfolding total
-total-some f zero h = absurd (omega arith)
-total-some f (suc n) h = elim (decLe 1 (f (suc n))) [
-  | yes l ↦ (suc n, omega arith, omega arith, l)
-  | no l ↦ (let x = total-some f n (omega arith) in (x .0, x .1, omega (arith, x .2), x .3))
-]
-
--- two rows of a sum, in either order
-total-both : (f : ℕ → ℕ) (n r k : ℕ) → inTable n r ≡ true → inTable n k ≡ true → (r ≡ k → ⊥) → f r + f k ≤ total f n
-total-both f n r k p q d = elim (decLt r k) [
-  | yes l ↦ total-two f n r k (table-low n r p) l (table-high n k q)
-  | no l ↦ (let x = total-two f n k r (table-low n k q) (omega arith) (table-high n r p) in omega arith)
-]
-
 -- ---- the words of a row that are row j
-
-abbrev type-hits : ℕ → Cells → ℕ
-type-hits j c = hits own j (typeUses c) c
-
-hit-one : (p j : ℕ) → p ≡ j → hit j p ≡ 1
-hit-one p j e = rw (eq-eqb p j e)
 
 one-hit : (p j : ℕ) → 1 ≤ hit j p → p ≡ j
 one-hit p j h = elim (either (eqb p j)) [ inl e ↦ eqb-true p j e | inr e ↦ (let z = rw e at h in absurd (omega arith)) ]
 
-side-hit : (c : Cells) (t : TypeRow) → View c t → (j : ℕ) → Side t j → 1 ≤ type-hits j c
-unfolding Side own
-side-hit c t (v-seq e) j (inl h) = rw e (omega (arith, hit-one (c .p) j h))
-side-hit c t (v-seq e) j (inr h) = rw e (omega (arith, hit-one (c .q) j h))
-side-hit c t (v-choice e) j (inl h) = rw e (omega (arith, hit-one (c .p) j h))
-side-hit c t (v-choice e) j (inr h) = rw e (omega (arith, hit-one (c .q) j h))
-side-hit c t (v-star e) j h = rw e (omega (arith, hit-one (c .p) j h))
-
 held-hit : (c : Cells) (j : ℕ) → c .kind ≡ 4 → c .q ≡ j → 1 ≤ type-hits j c
 unfolding own
 held-hit c j k h = rw k (omega (arith, hit-one (c .q) j h))
-
-abbrev cells : ℕ → ℕ → ℕ → ℕ → Cells
-cells k p q r = record { kind = k; p = p; q = q; r = r }
 
 either-hit : (p q j : ℕ) → 1 ≤ hit j p + hit j q + 0 → (p ≡ j) ⊎ (q ≡ j)
 either-hit p q j h = elim (decLe 1 (hit j p)) [ yes l ↦ inl (one-hit p j l) | no l ↦ inr (one-hit q j (omega arith)) ]
@@ -84,9 +50,6 @@ hit-row (suc (suc (suc (suc (suc (suc (suc (suc zero)))))))) p q r j h = absurd 
 hit-row (suc (suc (suc (suc (suc (suc (suc (suc (suc k))))))))) p q r j h = absurd (omega arith)
 
 module _ (s : List ℕ) (e : shapely s ≡ true) where
-  users-good : users-ok (sheetOf s) ≡ true
-  users-good = search (and-left, and-right) depth 14
-
   -- how often row j is named by what is no type row
   abbrev outer : ℕ → ℕ
   outer j = total (λ x. hit j (scriptOf s .nameRow x)) (scriptOf s .names) + total (λ c. procedure-hits (sheetOf s) j (scriptOf s .procedureRow c)) (scriptOf s .procedures) + hit j (scriptOf s .a) + hit j (scriptOf s .b)
@@ -94,9 +57,9 @@ module _ (s : List ℕ) (e : shapely s ≡ true) where
   abbrev inner : ℕ → ℕ
   inner j = total (λ i. type-hits j (scriptOf s .typeRow i)) (scriptOf s .types)
 
-  one-user : (j : ℕ) → inTable (scriptOf s .types) j ≡ true → inner j + outer j ≡ 1
-  unfolding users-ok type-users sheetOf
-  one-user j h = omega (arith, eqb-true (type-users (sheetOf s) j) 1 (every-at _ (scriptOf s .types) (and-left _ _ (and-left _ _ (and-left _ _ users-good))) j (table-low (scriptOf s .types) j h) (table-high (scriptOf s .types) j h)))
+  used-once : (j : ℕ) → inTable (scriptOf s .types) j ≡ true → inner j + outer j ≡ 1
+  unfolding type-users sheetOf
+  used-once j h = omega (arith, one-user s e j h)
 
   declared-hit : (j : ℕ) → is-declared (scriptOf s) j ≡ true → 1 ≤ outer j
   declared-hit j d = elim (or-cases (eqb (scriptOf s .a) j || eqb (scriptOf s .b) j || some (λ x. eqb (scriptOf s .nameRow x) j) (scriptOf s .names)) _ d) [
@@ -139,7 +102,7 @@ module _ (s : List ℕ) (e : shapely s ≡ true) where
       part = side-part (shaped-rows s e) i j x
 
       one : inner j + outer j ≡ 1
-      one = one-user j (in-table (scriptOf s .types) j (part .low) (omega (arith, part .lower, table-high (scriptOf s .types) i h)))
+      one = used-once j (in-table (scriptOf s .types) j (part .low) (omega (arith, part .lower, table-high (scriptOf s .types) i h)))
 
       here : 1 ≤ type-hits j (scriptOf s .typeRow i)
       here = side-hit (scriptOf s .typeRow i) _ (view (scriptOf s .typeRow i)) j x
@@ -156,7 +119,7 @@ module _ (s : List ℕ) (e : shapely s ≡ true) where
             one,
             here,
             held-hit (scriptOf s .typeRow k) j z w,
-            total-both (λ i. type-hits j (scriptOf s .typeRow i)) (scriptOf s .types) i k h (in-table (scriptOf s .types) k p q) (λ y. no-side k z (rw y at x)),
+            total-both (λ i. type-hits j (scriptOf s .typeRow i)) (scriptOf s .types) i k (table-low (scriptOf s .types) i h) (table-high (scriptOf s .types) i h) p q (λ y. no-side k z (rw y at x)),
           )
 
   pub rooted-free : {root : List ℕ} → Rooted s root → Free (scriptOf s .typeRow) root (scriptOf s .types)
@@ -198,10 +161,10 @@ module _ (s : List ℕ) (e : shapely s ≡ true) where
       ]
 
   -- a row is a root, or a side of a row
-  user-of : (j : ℕ) → inTable (scriptOf s .types) j ≡ true → (isRoot s j ≡ true) ⊎ ((i : ℕ) × (inTable (scriptOf s .types) i ≡ true) × Side (rowForm (scriptOf s .typeRow) i) j)
+  pub user-of : (j : ℕ) → inTable (scriptOf s .types) j ≡ true → (isRoot s j ≡ true) ⊎ ((i : ℕ) × (inTable (scriptOf s .types) i ≡ true) × Side (rowForm (scriptOf s .typeRow) i) j)
   user-of j h = elim (decLe 1 (inner j)) [
     | yes l ↦ (let x = total-some (λ i. type-hits j (scriptOf s .typeRow i)) (scriptOf s .types) l in by (x .0) (x .1) (x .2) (hit-row _ _ _ _ j (x .3)))
-    | no l ↦ inl (or-left _ (declared-by j (omega (arith, one-user j h))))
+    | no l ↦ inl (or-left _ (declared-by j (omega (arith, used-once j h))))
   ]
     where
       by : (i : ℕ) → 1 ≤ i → i ≤ scriptOf s .types → Side (rowForm (scriptOf s .typeRow) i) j ⊎ ((scriptOf s .typeRow i .kind ≡ 4) × (scriptOf s .typeRow i .q ≡ j)) → (isRoot s j ≡ true) ⊎ ((i : ℕ) × (inTable (scriptOf s .types) i ≡ true) × Side (rowForm (scriptOf s .typeRow) i) j)
@@ -245,28 +208,15 @@ module _ (s : List ℕ) (e : shapely s ≡ true) where
 
   -- ---- what a model has is a place
 
-  place-in : (k r a : ℕ) → has (model (rowForm (scriptOf s .typeRow)) k r) a ≡ true → PlaceKind (scriptOf s .typeRow a .kind)
-  unfolding has model modelForm
-  place-in zero r a y = absurd (false≢true y)
-  place-in (suc k) r a y = go (view (scriptOf s .typeRow r)) (λ j. place-in k j a) y
-    where
-      at : PlaceKind (scriptOf s .typeRow r .kind) → eqb r a ≡ true → PlaceKind (scriptOf s .typeRow a .kind)
-      at p z = rw (eqb-true r a z) at p
-
-      go : {t : TypeRow} → View (scriptOf s .typeRow r) t → ((j : ℕ) → has (model (rowForm (scriptOf s .typeRow)) k j) a ≡ true → PlaceKind (scriptOf s .typeRow a .kind)) → has (modelForm t r (model (rowForm (scriptOf s .typeRow)) k)) a ≡ true → PlaceKind (scriptOf s .typeRow a .kind)
-      go v-none again y = absurd (false≢true y)
-      go v-empty again y = absurd (false≢true y)
-      go (v-text c) again y = at (inl c) y
-      go (v-bool c) again y = at (inr (inl c)) y
-      go (v-label c) again y = at (inr (inr (inl c))) y
-      go (v-seq c) again y = elim (or-cases (has (model (rowForm (scriptOf s .typeRow)) k _) a) (has (model (rowForm (scriptOf s .typeRow)) k _) a) y) [ inl z ↦ again _ z | inr z ↦ again _ z ]
-      go (v-choice c) again y = elim (or-cases (has (model (rowForm (scriptOf s .typeRow)) k _) a) (has (model (rowForm (scriptOf s .typeRow)) k _) a) y) [ inl z ↦ again _ z | inr z ↦ again _ z ]
-      go (v-star c) again y = again _ y
-      go (v-name c) again y = at (inr (inr (inr c))) y
-
   pub has-place : (r a : ℕ) → has (modelOf s r) a ≡ true → PlaceKind (scriptOf s .typeRow a .kind)
   unfolding modelAt
-  has-place r a y = place-in r r a y
+  has-place r a y = go (atom-kind (scriptOf s .typeRow) r r a y)
+    where
+      go : AtomKind (scriptOf s .typeRow a) → PlaceKind (scriptOf s .typeRow a .kind)
+      go (a-text k) = inl k
+      go (a-bool k) = inr (inl k)
+      go (a-label k) = inr (inr (inl k))
+      go (a-name k) = inr (inr (inr k))
 
   -- a row that is a place is its own model
   pub place-has : (a : ℕ) → PlaceKind (scriptOf s .typeRow a .kind) → has (modelOf s a) a ≡ true

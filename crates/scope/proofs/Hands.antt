@@ -2,9 +2,8 @@
 use mathlib.Core.Path.{_≡_, refl, sym, ap, _∙_}
 use mathlib.Core.List.{List, [], _∷_}
 use mathlib.Core.Bool.{Bool, true, false, _&&_, cond}
-use mathlib.Core.Logic.{_⊎_, inl, inr}
 use Prim.Native.Nat.{ℕ, _+_, _-_, _≤_, _<_}
-use native.Mathlib.Nat.{eq-zero-or-pos}
+use native.Mathlib.Decide.{ℕ-discrete}
 use native.Mathlib.Omega.{arith}
 use borrow.Author.Tests.{eq-eqb, ne-eqb}
 use lib.Dec.{eqb}
@@ -13,12 +12,6 @@ use lib.Seq.{getD-set-same, getD-set-other}
 use Rattle.meaning.specs.Sheet.{Cells}
 use Rattle.meaning.specs.Shape.{Use, Uses, Scope, hit, hits}
 use Rattle.scope.specs.Scopes.{Neat, scopeOf, seen, Hand, hand-of, put, after, Each, none, more, takes, handed, Words, Handed}
-
-pub same-or-not : (m n : ℕ) → (m ≡ n) ⊎ (m ≡ n → ⊥)
-same-or-not m n = elim (eq-zero-or-pos (m - n)) [
-  | inl x ↦ elim (eq-zero-or-pos (n - m)) [ inl y ↦ inl (omega arith) | inr y ↦ inr (λ e. omega arith) ]
-  | inr x ↦ inr (λ e. omega arith)
-]
 
 put-same : (σ : ℕ → Scope) (r : ℕ) (Γ : Scope) → put σ r Γ r ≡ Γ
 put-same σ r Γ = rw (eq-eqb r r refl)
@@ -50,9 +43,9 @@ module _ {old : List ℕ} (r x : ℕ) (w : Words old) where
   unfolding after
   hand-store n l = record {
     words = record { size = length-set old r x ∙ w .size; neat = λ j. neat-at j };
-    at = λ j p q. elim (same-or-not r j) [
-      | inl e ↦ (ap scopeOf (stored j e) ∙ sym (rw (eq-eqb r j e)))
-      | inr d ↦ (ap scopeOf (kept j d) ∙ sym (put-other (seen old) r (scopeOf x) j d))
+    at = λ j p q. elim (ℕ-discrete r j) [
+      | yes e ↦ (ap scopeOf (stored j e) ∙ sym (rw (eq-eqb r j e)))
+      | no d ↦ (ap scopeOf (kept j d) ∙ sym (put-other (seen old) r (scopeOf x) j d))
     ];
   }
     where
@@ -63,9 +56,9 @@ module _ {old : List ℕ} (r x : ℕ) (w : Words old) where
       kept j d = getD-set-other old r j x 0 (λ e. d (sym e))
 
       neat-at : (j : ℕ) → Neat (getD (set old r x) j 0)
-      neat-at j = elim (same-or-not r j) [
-        | inl e ↦ rw (stored j e) n
-        | inr d ↦ rw (kept j d) (w .neat j)
+      neat-at j = elim (ℕ-discrete r j) [
+        | yes e ↦ rw (stored j e) n
+        | no d ↦ rw (kept j d) (w .neat j)
       ]
 
   pub hand-past : (Γ : Scope) → 512 < r → Handed old old (hand-of r Γ ∷ [])
@@ -96,9 +89,9 @@ tally-hits which u c Γ Δ Θ r =
 pub found : {P : ℕ → Scope → Type 0} {l : List Hand} (r : ℕ) → 1 ≤ tally l r → Each P l → (Γ : Scope) × P r Γ
 unfolding tally
 found r h none = absurd (omega arith)
-found {P} r h (more {h = x} {l = l} e f) = elim (same-or-not (x .row) r) [
-  | inl q ↦ (x .scope, rw q at e)
-  | inr q ↦ (let z : hit r (x .row) ≡ 0 = rw (ne-eqb (x .row) r q) in found r (omega arith) f)
+found {P} r h (more {h = x} {l = l} e f) = elim (ℕ-discrete (x .row) r) [
+  | yes q ↦ (x .scope, rw q at e)
+  | no q ↦ (let z : hit r (x .row) ≡ 0 = rw (ne-eqb (x .row) r q) in found r (omega arith) f)
 ]
 
 pub each-map : {P Q : ℕ → Scope → Type 0} → ((p : ℕ) (Γ : Scope) → P p Γ → Q p Γ) → {l : List Hand} → Each P l → Each Q l
@@ -119,9 +112,9 @@ each-tail (more e f) = f
 pub after-none : (l : List Hand) (σ : ℕ → Scope) (p : ℕ) → tally l p ≡ 0 → after l σ p ≡ σ p
 unfolding after tally
 after-none [] σ p h = refl
-after-none (x ∷ l) σ p h = elim (same-or-not (x .row) p) [
-  | inl q ↦ absurd (let z : hit p (x .row) ≡ 1 = rw (eq-eqb (x .row) p q) in omega arith)
-  | inr q ↦ (let z : hit p (x .row) ≡ 0 = rw (ne-eqb (x .row) p q) in after-none l (put σ (x .row) (x .scope)) p (omega arith) ∙ put-other σ (x .row) (x .scope) p q)
+after-none (x ∷ l) σ p h = elim (ℕ-discrete (x .row) p) [
+  | yes q ↦ absurd (let z : hit p (x .row) ≡ 1 = rw (eq-eqb (x .row) p q) in omega arith)
+  | no q ↦ (let z : hit p (x .row) ≡ 0 = rw (ne-eqb (x .row) p q) in after-none l (put σ (x .row) (x .scope)) p (omega arith) ∙ put-other σ (x .row) (x .scope) p q)
 ]
 
 -- rows that are handed one scope each have it
@@ -139,9 +132,9 @@ after-once {Q} σ (more {h = x} {l = l} e g) f =
 pub tally-none : {Q : ℕ → Type 0} {l : List Hand} (r : ℕ) → Each (λ p Γ. Q p) l → (Q r → ⊥) → tally l r ≡ 0
 unfolding tally
 tally-none r none f = refl
-tally-none {Q} r (more {h = x} {l = l} e g) f = elim (same-or-not (x .row) r) [
-  | inl q ↦ absurd (f (rw q at e))
-  | inr q ↦ (let z : hit r (x .row) ≡ 0 = rw (ne-eqb (x .row) r q) in let s = tally-none {Q = Q} r g f in omega arith)
+tally-none {Q} r (more {h = x} {l = l} e g) f = elim (ℕ-discrete (x .row) r) [
+  | yes q ↦ absurd (f (rw q at e))
+  | no q ↦ (let z : hit r (x .row) ≡ 0 = rw (ne-eqb (x .row) r q) in let s = tally-none {Q = Q} r g f in omega arith)
 ]
 
 tally-each : (m : ℕ → ℕ) (l : List Hand) → ((p : ℕ) → tally l p ≤ m p) → Each (λ p Γ. 1 ≤ m p) l

@@ -1,31 +1,22 @@
 -- The three loops: what each turn makes of what is known, by the laws of the pass (proofs/Pass.antt).
 use mathlib.Core.Path.{_≡_, refl, sym, ap, _∙_}
 use mathlib.Core.List.{List, [], _∷_}
-use mathlib.Core.Bool.{Bool, true, false, not, false≢true}
-use mathlib.Core.Logic.{inl, inr}
-use Prim.Native.Nat.{ℕ, zero, suc, _+_, _-_, _≤_, _<_}
+use mathlib.Core.Bool.{Bool, true, false, false≢true}
+use Prim.Native.Nat.{ℕ, _+_, _-_, _≤_, _<_}
+use native.Mathlib.Decide.{ℕ-discrete}
 use native.Mathlib.Omega.{arith}
 use borrow.Author.Tests.{eq-eqb, ne-eqb}
-use lib.ListN.{getD, replicate, length-replicate}
+use lib.ListN.{replicate, length-replicate}
 use Rattle.meaning.specs.Sheet.{Cells, Script, scriptOf}
 use Rattle.meaning.specs.Kinds.{present}
 use Rattle.meaning.specs.Shape.{Scope, parameters-scope, scope-ok}
+use Rattle.meaning.specs.Laws.Words.{zeros}
 use Rattle.sheet.specs.Laid.{Laid}
 use Rattle.sheet.specs.declared.Layout.{Layout}
 use Rattle.scope.specs.Scopes.{places, scopeOf, seen, hand-of, after, Words, Handed, QueryDone, StatementDone, Rooted, Statements, Queries, Judged}
-use Rattle.scope.proofs.Hands.{same-or-not}
 use Rattle.scope.proofs.Places.{neat-small}
 use Rattle.scope.proofs.Once.{Facts}
 use Rattle.scope.proofs.Pass.{one-body, main-no-body, statement-step, statement-refused, query-step, query-refused, all-scoped}
-
--- a test taken by its negation
-pub off : (b : Bool) → not b ≡ true → b ≡ false
-off true e = absurd (false≢true e)
-off false e = refl
-
-pub on : (b : Bool) → not b ≡ false → b ≡ true
-on true e = refl
-on false e = absurd (false≢true (sym e))
 
 -- ---- the layout's counts
 
@@ -44,17 +35,12 @@ module _ {s : List ℕ} {l : Layout} (laid : Laid s l) where
 
 -- ---- fresh words
 
-zero-at : (n j : ℕ) → getD {A = ℕ} (replicate n 0) j 0 ≡ 0
-zero-at zero j = refl
-zero-at (suc n) zero = refl
-zero-at (suc n) (suc j) = zero-at n j
-
 pub fresh-words : {l : List ℕ} → l ≡ replicate 513 0 → Words l
-fresh-words e = rw e (record { size = length-replicate {A = ℕ} 513 0; neat = λ j. rw (zero-at 513 j) (neat-small 0 (omega arith)) })
+fresh-words e = rw e (record { size = length-replicate {A = ℕ} 513 0; neat = λ j. rw (zeros 513 j) (neat-small 0 (omega arith)) })
 
 fresh-seen : {l : List ℕ} → l ≡ replicate 513 0 → (j : ℕ) → seen l j ≡ []
 unfolding scopeOf places
-fresh-seen e j = rw e (ap scopeOf (zero-at 513 j))
+fresh-seen e j = rw e (ap scopeOf (zeros 513 j))
 
 -- ---- the bodies below c have their scopes
 
@@ -84,9 +70,9 @@ module _ (S : Script) where
     bodies-more = record {
       words = h .words;
       main = apart (S .main) (F .main-in .0) (F .main-in .1) (λ e. main-no-body F (S .main) (F .main-in .0) (F .main-in .1) refl c p q e) ∙ b .main;
-      bodies = λ d m n o. elim (same-or-not c d) [
-        | inl e ↦ rw (← e) (here ∙ is)
-        | inr e ↦ (apart (S .procedureRow d .body) (F .body-in d m o .0) (F .body-in d m o .1)
+      bodies = λ d m n o. elim (ℕ-discrete c d) [
+        | yes e ↦ rw (← e) (here ∙ is)
+        | no e ↦ (apart (S .procedureRow d .body) (F .body-in d m o .0) (F .body-in d m o .1)
             (λ f. one-body F (S .procedureRow d .body) (F .body-in d m o .0) (F .body-in d m o .1) c d p q m o e f refl) ∙ b .bodies d m (less d n e) o)
       ];
     }

@@ -2,37 +2,24 @@
 use mathlib.Core.Path.{_≡_, refl, sym, ap, _∙_, subst}
 use mathlib.Core.List.{List}
 use mathlib.Core.Bool.{Bool, true, false, _&&_, _||_, not, cond, false≢true}
-use mathlib.Core.Logic.{inl, inr}
 use Prim.Native.Nat.{ℕ, zero, suc, _+_, _-_, _≤_, _<_}
-use native.Mathlib.Nat.{eq-zero-or-pos}
 use native.Mathlib.Omega.{arith}
-use borrow.Author.Tests.{eqb-true, ne-eqb, leb-true}
-use lib.Dec.{eqb, leb}
-use Rattle.meaning.specs.Limits.{most-rows, most-names, most-procedures, most-forest-rows, most-pool, most-fuel}
-use Rattle.meaning.specs.Tests.{every, total, inTable}
+use borrow.Author.Tests.{ne-eqb}
+use lib.Dec.{eqb}
+use Rattle.meaning.specs.Tests.{total, inTable}
 use Rattle.meaning.specs.Laws.Bools.{and-left, and-right}
-use Rattle.meaning.specs.Laws.Tests.{table-low, table-high, every-at, total-two}
+use Rattle.meaning.specs.Laws.Tests.{in-table, table-low, table-high, total-both}
 use Rattle.meaning.specs.Sheet.{Cells, Procedure, Script, Sheet, scriptOf, sheetOf}
-use Rattle.meaning.specs.Shape.{Use, Uses, own, asking, Scope, hit, hits, queryUses, statementUses, wordOk, wordsOk, parameter-ok, procedure-ok, limits-ok, queries-ok, statements-ok, procedures-ok, roots-ok, users-ok, statement-users, query-users, type-users, row-users}
+use Rattle.meaning.specs.Shape.{Use, Uses, own, asking, Scope, hit, hits, queryUses, statementUses, wordOk, wordsOk, limits-ok, queries-ok, statements-ok, procedures-ok, roots-ok, users-ok, statement-users, query-users}
 use Rattle.scope.specs.Scopes.{Before, with-forest, with-tree, Each, given, handed, statement-parts, statement-asks, query-parts}
 use Rattle.scope.proofs.Hands.{handed-each}
-use Rattle.scope.proofs.ByKind.{cells, by-14, by-15}
+use Rattle.meaning.specs.Laws.Shaped.{cells, few, roots as roots-say, queries-say, statements-say, procedures-say, body-says, query-user, statement-user}
+use Rattle.scope.proofs.ByKind.{by-14, by-15}
 
 -- ---- sums
 
-pub total-some : (a : ℕ → ℕ) (n : ℕ) → 1 ≤ total a n → (u : ℕ) × (1 ≤ u) × (u ≤ n) × (1 ≤ a u)
-unfolding total
-total-some a zero h = absurd (omega arith)
-total-some a (suc n) h = elim (eq-zero-or-pos (a (suc n))) [
-  | inl e ↦ (let x = total-some a n (omega arith) in (x .0, x .1, omega (arith, x .2), x .3))
-  | inr p ↦ (suc n, omega arith, omega arith, p)
-]
-
 pub total-only : (a : ℕ → ℕ) (n : ℕ) → total a n ≤ 1 → (u v : ℕ) → 1 ≤ u → u ≤ n → 1 ≤ v → v ≤ n → (u ≡ v → ⊥) → 1 ≤ a u → a v ≡ 0
-total-only a n h u v p q s t d e = elim (eq-zero-or-pos (v - u)) [
-  | inl z ↦ omega (arith, total-two a n v u s (omega arith) q)
-  | inr z ↦ omega (arith, total-two a n u v p (omega arith) t)
-]
+total-only a n h u v p q s t d e = omega (arith, total-both a n u v p q s t d)
 
 total-same : (a b : ℕ → ℕ) (n : ℕ) → ((i : ℕ) → 1 ≤ i → i ≤ n → a i ≡ b i) → total a n ≡ total b n
 unfolding total
@@ -174,59 +161,17 @@ module _ (t : Sheet) (limits : limits-ok t ≡ true) (queries : queries-ok t ≡
   abbrev S : Script
   S = t .script
 
-  few : (S .statements ≤ 512) × (S .queries ≤ 512)
-  unfolding limits-ok
-  few =
-      let a = leb (S .names) most-names && leb (S .types) most-rows in
-      let b = a && leb (S .queries) most-rows in
-      let d = b && leb (S .statements) most-rows in
-      let e = d && leb (S .procedures) most-procedures in
-      let f = e && leb (t .grove .rows) most-forest-rows in
-      let g = f && leb (t .grove .pool) most-pool in
-      let h = g && leb (t .checkFuel) most-fuel in
-      let first : d ≡ true = and-left d (leb (S .procedures) most-procedures) (and-left e (leb (t .grove .rows) most-forest-rows)
-      (and-left f (leb (t .grove .pool) most-pool) (and-left g (leb (t .checkFuel) most-fuel) (and-left h (leb (t .runFuel) most-fuel) limits)))) in (
-        leb-true (S .statements) 512 (and-right b (leb (S .statements) most-rows) first),
-        leb-true (S .queries) 512 (and-right a (leb (S .queries) most-rows) (and-left b (leb (S .statements) most-rows) first)),
-      )
-
   main-inside : inTable (S .statements) (S .main) ≡ true
-  unfolding roots-ok
-  main-inside =
-      let a = inTable (S .types) (S .a) && inTable (S .types) (S .b) in
-      and-right a (inTable (S .statements) (S .main)) (and-left (a && inTable (S .statements) (S .main)) (leb (t .grove .root) (t .grove .rows)) roots)
-
-  procedure-words : (c : ℕ) → 1 ≤ c → c ≤ S .procedures → procedure-ok t (S .procedureRow c) ≡ true
-  unfolding procedures-ok
-  procedure-words c p q = every-at (λ c. procedure-ok t (S .procedureRow c)) (S .procedures) procedures c p q
+  main-inside = roots-say t roots .main
 
   body-inside : (c : ℕ) → 1 ≤ c → c ≤ S .procedures → inTable (S .statements) (S .procedureRow c .body) ≡ true
-  body-inside c p q =
-      let x = S .procedureRow c in
-      and-right (parameter-ok t (x .first) && parameter-ok t (x .second) && (not (eqb (x .first) 0) || eqb (x .second) 0) && inTable (S .types) (x .input) && inTable (S .types) (x .output))
-      (inTable (S .statements) (x .body)) (procedure-words c p q)
+  body-inside c p q = body-says t c procedures (in-table (S .procedures) c p q)
 
   parameters-order : (c : ℕ) → 1 ≤ c → c ≤ S .procedures → not (eqb (S .procedureRow c .first) 0) || eqb (S .procedureRow c .second) 0 ≡ true
-  parameters-order c p q =
-      let x = S .procedureRow c in
-      let a = parameter-ok t (x .first) && parameter-ok t (x .second) in
-      let b = not (eqb (x .first) 0) || eqb (x .second) 0 in
-      and-right a b (and-left (a && b) (inTable (S .types) (x .input)) (and-left (a && b && inTable (S .types) (x .input)) (inTable (S .types) (x .output))
-      (and-left (a && b && inTable (S .types) (x .input) && inTable (S .types) (x .output)) (inTable (S .statements) (x .body)) (procedure-words c p q))))
+  parameters-order c p q = let h = procedures-say t c procedures (in-table (S .procedures) c p q) in search (and-left, and-right) depth 9
 
   statement-words : (i : ℕ) → 1 ≤ i → i ≤ S .statements → wordsOk t (statementUses (S .procedureRow) (S .statementRow i)) i (S .statementRow i) ≡ true
-  unfolding statements-ok
-  statement-words i p q =
-      let c = S .statementRow i in
-      and-right (inTable 14 (c .kind)) (wordsOk t (statementUses (S .procedureRow) c) i c)
-      (every-at (λ i. inTable 14 (S .statementRow i .kind) && wordsOk t (statementUses (S .procedureRow) (S .statementRow i)) i (S .statementRow i)) (S .statements) statements i p q)
-
-  query-words : (i : ℕ) → 1 ≤ i → i ≤ S .queries → wordsOk t (queryUses (S .queryRow i)) i (S .queryRow i) ≡ true
-  unfolding queries-ok
-  query-words i p q =
-      let c = S .queryRow i in
-      and-right (inTable 13 (c .kind)) (wordsOk t (queryUses c) i c)
-      (every-at (λ i. inTable 13 (S .queryRow i .kind) && wordsOk t (queryUses (S .queryRow i)) i (S .queryRow i)) (S .queries) queries i p q)
+  statement-words i p q = statements-say t i statements (in-table (S .statements) i p q)
 
   same-uses : (i : ℕ) → 1 ≤ i → i ≤ S .statements → statementUses (S .procedureRow) (S .statementRow i) ≡ statementUses (given (S .statementRow i)) (S .statementRow i)
   same-uses i p q = let c = S .statementRow i in uses-given t (S .procedureRow) (c .p) (c .q) (c .r) i (c .kind) (statement-words i p q)
@@ -244,21 +189,6 @@ module _ (t : Sheet) (limits : limits-ok t ≡ true) (queries : queries-ok t ≡
   call-words : (c : Cells) (i : ℕ) → wordsOk t (statementUses (S .procedureRow) c) i c ≡ true → c .kind ≡ 14 → eqb (c .q) 0 ≡ true → eqb (c .r) 0 ≡ true
   call-words c i h e = call-known (c .p) (c .q) (c .r) i (subst (λ (k : ℕ). wordsOk t (statementUses (S .procedureRow) (cells k (c .p) (c .q) (c .r))) i (cells k (c .p) (c .q) (c .r)) ≡ true) e h)
 
-  statement-user : (r : ℕ) → 1 ≤ r → r ≤ S .statements → statement-users t r ≡ 1
-  unfolding users-ok
-  statement-user r p q =
-      let a = every (λ r. eqb (type-users t r) 1) (S .types) && every (λ r. eqb (query-users t r) 1) (S .queries) in
-      let b = every (λ r. eqb (statement-users t r) 1) (S .statements) in
-      eqb-true (statement-users t r) 1 (every-at (λ r. eqb (statement-users t r) 1) (S .statements) (and-right a b (and-left (a && b) (every (λ r. eqb (row-users t r) 1) (t .grove .rows)) users)) r p q)
-
-  query-user : (r : ℕ) → 1 ≤ r → r ≤ S .queries → query-users t r ≡ 1
-  unfolding users-ok
-  query-user r p q =
-      let a = every (λ r. eqb (type-users t r) 1) (S .types) in
-      let b = every (λ r. eqb (query-users t r) 1) (S .queries) in
-      let d = every (λ r. eqb (statement-users t r) 1) (S .statements) in
-      eqb-true (query-users t r) 1 (every-at (λ r. eqb (query-users t r) 1) (S .queries) (and-right a b (and-left (a && b) d (and-left (a && b && d) (every (λ r. eqb (row-users t r) 1) (t .grove .rows)) users))) r p q)
-
   statement-sum : (r : ℕ) → 1 ≤ r → r ≤ S .statements
       → total (λ i. hits own r (statementUses (given (S .statementRow i)) (S .statementRow i)) (S .statementRow i)) (S .statements)
       + total (λ c. hit r (S .procedureRow c .body)) (S .procedures) + hit r (S .main) ≡ 1
@@ -266,7 +196,7 @@ module _ (t : Sheet) (limits : limits-ok t ≡ true) (queries : queries-ok t ≡
   statement-sum r p q =
       let e = total-same (λ i. hits own r (statementUses (S .procedureRow) (S .statementRow i)) (S .statementRow i)) (λ i. hits own r (statementUses (given (S .statementRow i)) (S .statementRow i)) (S .statementRow i)) (S .statements)
       (λ i a b. ap (λ u. hits own r u (S .statementRow i)) (same-uses i a b)) in
-      let u = statement-user r p q in
+      let u = statement-user t r users (in-table (S .statements) r p q) in
       omega arith
 
   query-sum : (r : ℕ) → 1 ≤ r → r ≤ S .queries
@@ -276,21 +206,21 @@ module _ (t : Sheet) (limits : limits-ok t ≡ true) (queries : queries-ok t ≡
   query-sum r p q =
       let e = total-same (λ i. hits asking r (statementUses (S .procedureRow) (S .statementRow i)) (S .statementRow i)) (λ i. hits asking r (statementUses (given (S .statementRow i)) (S .statementRow i)) (S .statementRow i)) (S .statements)
       (λ i a b. ap (λ u. hits asking r u (S .statementRow i)) (same-uses i a b)) in
-      let u = query-user r p q in
+      let u = query-user t r users (in-table (S .queries) r p q) in
       omega arith
 
   facts-of : Facts S
   unfolding statement-parts statement-asks query-parts
   facts-of = record {
-    few-statements = few .0;
-    few-queries = few .1;
+    few-statements = few t limits .statements;
+    few-queries = few t limits .queries;
     main-in = (table-low (S .statements) (S .main) main-inside, table-high (S .statements) (S .main) main-inside);
     body-in = λ c p q. (table-low (S .statements) (S .procedureRow c .body) (body-inside c p q), table-high (S .statements) (S .procedureRow c .body) (body-inside c p q));
     below = λ i p q Γ. (let c = S .statementRow i in
         parts-below t (statementUses (given c) c) i c (given-words i p q) (statement-linkless (c .p) (c .q) (c .r) (c .kind)) (cond (eqb (c .kind) 8) (with-forest Γ) Γ) (cond (eqb (c .kind) 7) (with-forest Γ) Γ) Γ);
     inside = λ i p q Γ. (let c = S .statementRow i in asks-inside t (statementUses (given c) c) i c (given-words i p q) Γ Γ Γ);
     query-below = λ i p q Γ. (let c = S .queryRow i in
-        parts-below t (queryUses c) i c (query-words i p q) (query-linkless (c .p) (c .q) (c .r) (c .kind)) Γ (cond (eqb (c .kind) 8) (with-forest Γ) (cond (eqb (c .kind) 13) (with-tree Γ) Γ)) Γ);
+        parts-below t (queryUses c) i c (queries-say t i queries (in-table (S .queries) i p q)) (query-linkless (c .p) (c .q) (c .r) (c .kind)) Γ (cond (eqb (c .kind) 8) (with-forest Γ) (cond (eqb (c .kind) 13) (with-tree Γ) Γ)) Γ);
     call = λ i p q. call-words (S .statementRow i) i (statement-words i p q);
     once = statement-sum;
     query-once = query-sum;

@@ -1,1 +1,2 @@
+-- Scopes as words, and what each row hands to its parts.
 pub mod Scopes

@@ -1,1 +1,2 @@
+-- What the layout of a sheet and the rows read by it stand for.
 pub mod Laid

@@ -12,15 +12,13 @@ use lib.Seq.{getD-set-same, getD-set-other}
 use borrow.Author.Tests.{eq-eqb, ne-eqb}
 use Rattle.meaning.specs.Tests.{inTable}
 use Rattle.meaning.specs.Sheet.{scriptOf}
-use Rattle.meaning.specs.Laws.Bools.{either, not-both}
+use Rattle.meaning.specs.Laws.Bools.{or-false, and-false, either, not-both}
 use Rattle.meaning.specs.Laws.Tests.{in-table, table-low, table-high}
-use Rattle.meaning.specs.Laws.Wired.{or-false}
 use Rattle.sheet.specs.declared.Layout.{Layout}
 use Rattle.sheet.specs.Laid.{Laid}
 use Rattle.bits.specs.Sets.{inSet, Added}
-use Rattle.barren.specs.Flags.{zeros}
+use Rattle.meaning.specs.Laws.Words.{zeros}
 use Rattle.places.specs.Tables.{Clear}
-use Rattle.places.specs.Behind.{and-none}
 use Rattle.ties.specs.Heads.{headNumber}
 
 -- r is the lowest place of head h, which is i where there was none
@@ -76,7 +74,7 @@ module _ {s class same : List ℕ} {i : ℕ} (f : Classed s class same i) where
   -- a class that does not get the row
   other-class : (h b : ℕ) → (headNumber s (i + 1) ≡ h → ⊥) → inTable i b && eqb (headNumber s b) h ≡ inTable (i + 1) b && eqb (headNumber s b) h
   other-class h b d = elim (ℕ-discrete b (i + 1)) [
-    | yes z ↦ rw (z, ne-eqb (headNumber s (i + 1)) h d, and-none (inTable i (i + 1)), and-none (inTable (i + 1) (i + 1)))
+    | yes z ↦ rw (z, ne-eqb (headNumber s (i + 1)) h d, and-false (inTable i (i + 1)), and-false (inTable (i + 1) (i + 1)))
     | no z ↦ rw (table-same i b z)
   ]
 

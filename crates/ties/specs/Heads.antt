@@ -9,10 +9,13 @@ use native.Mathlib.Omega.{arith}
 use lib.Dec.{eqb}
 use lib.ListN.{getD}
 use borrow.Author.Tests.{ne-eqb}
+use Rattle.meaning.specs.Tests.{inTable}
 use Rattle.meaning.specs.Sheet.{Cells, scriptOf}
 use Rattle.meaning.specs.Shape.{shapely}
 use Rattle.meaning.specs.Places.{acting, headOf, headAt, same-head}
-use Rattle.barren.specs.Rows.{label-row, name-row, named, kind-in}
+use Rattle.meaning.specs.Laws.Shaped.{kind-in, label-row}
+use Rattle.meaning.specs.Laws.Tests.{in-table, table-high}
+use Rattle.meaning.specs.Laws.Apart.{shaped-labelled}
 use Rattle.places.specs.Firsts.{PlaceKind}
 
 abbrev pub headNo : Cells → ℕ
@@ -50,40 +53,43 @@ head-none c x y z = sym (go (c .kind) x y z)
     go (suc (suc (suc (suc zero)))) x y z = absurd (z refl)
     go (suc (suc (suc (suc (suc k))))) x y z = refl
 
--- what a place acts as: text, bool, or a label that is one
-data ActsAs (c : Cells) : Type 0 where
-  a-text : c .kind ≡ 2 → ActsAs c
-  a-bool : c .kind ≡ 3 → ActsAs c
-  a-label : c .kind ≡ 4 → c .p ≤ 1023 → ActsAs c
+-- what a place acts as, n the number of type rows: text, bool, or a label with a content
+pub data Acts (n : ℕ) (c : Cells) : Type 0 where
+  acts-text : c .kind ≡ 2 → Acts n c
+  acts-bool : c .kind ≡ 3 → Acts n c
+  acts-label : c .kind ≡ 4 → c .p ≤ 1023 → inTable n (c .q) ≡ true → Acts n c
 
 module _ (s : List ℕ) (e : shapely s ≡ true) where
   itself : (a k : ℕ) → scriptOf s .typeRow a .kind ≡ k → (k ≡ 8 → ⊥) → scriptOf s .typeRow a ≡ actingAt s a
   itself a k z n = itself-for s (scriptOf s .typeRow a) (λ w. n (sym z ∙ w))
 
-  acts-as : (a : ℕ) → PlaceKind (scriptOf s .typeRow a .kind) → ActsAs (actingAt s a)
-  acts-as a (inl k) = rw (← itself a 2 k (λ w. omega arith)) (a-text k)
-  acts-as a (inr (inl k)) = rw (← itself a 3 k (λ w. omega arith)) (a-bool k)
-  acts-as a (inr (inr (inl k))) = rw (← itself a 4 k (λ w. omega arith)) (a-label k (label-row s e a (kind-in s a 3 k) k .0))
-  acts-as a (inr (inr (inr k))) =
-      let x = named s e (scriptOf s .typeRow a .p) (name-row s e a (kind-in s a 7 k) k) in
-      rw (← named-for s (scriptOf s .typeRow a) k) (a-label (x .1) (label-row s e (scriptOf s .nameRow (scriptOf s .typeRow a .p)) (x .0) (x .1) .0))
+  label-acts : (i : ℕ) → scriptOf s .typeRow i .kind ≡ 4 → Acts (scriptOf s .types) (scriptOf s .typeRow i)
+  label-acts i k =
+      let x = label-row s e i k in
+      acts-label k (x .0) (in-table (scriptOf s .types) (scriptOf s .typeRow i .q) (x .1 .low) (omega (arith, x .1 .lower, table-high (scriptOf s .types) i (kind-in s i 3 k))))
 
-  small : {c : Cells} → ActsAs c → headNo c < 1026
-  small (a-text k) = rw k (omega arith)
-  small (a-bool k) = rw k (omega arith)
-  small (a-label k l) = rw k (omega arith)
+  pub acts-as : (a : ℕ) → PlaceKind (scriptOf s .typeRow a .kind) → Acts (scriptOf s .types) (actingAt s a)
+  acts-as a (inl k) = rw (← itself a 2 k (λ w. omega arith)) (acts-text k)
+  acts-as a (inr (inl k)) = rw (← itself a 3 k (λ w. omega arith)) (acts-bool k)
+  acts-as a (inr (inr (inl k))) = rw (← itself a 4 k (λ w. omega arith)) (label-acts a k)
+  acts-as a (inr (inr (inr k))) = rw (← named-for s (scriptOf s .typeRow a) k) (label-acts (scriptOf s .nameRow (scriptOf s .typeRow a .p)) (shaped-labelled s e a k))
 
-  one-head : {c d : Cells} → ActsAs c → ActsAs d → same-head (headOf c) (headOf d) ≡ eqb (headNo c) (headNo d)
+  small : {n : ℕ} {c : Cells} → Acts n c → headNo c < 1026
+  small (acts-text k) = rw k (omega arith)
+  small (acts-bool k) = rw k (omega arith)
+  small (acts-label k l h) = rw k (omega arith)
+
+  one-head : {n : ℕ} {c d : Cells} → Acts n c → Acts n d → same-head (headOf c) (headOf d) ≡ eqb (headNo c) (headNo d)
   unfolding same-head
-  one-head (a-text k) (a-text z) = rw (k, z)
-  one-head (a-text k) (a-bool z) = rw (k, z)
-  one-head {c} {d} (a-text k) (a-label z l) = rw (k, z) (sym (ne-eqb 1024 (d .p) (λ w. omega arith)))
-  one-head (a-bool k) (a-text z) = rw (k, z)
-  one-head (a-bool k) (a-bool z) = rw (k, z)
-  one-head {c} {d} (a-bool k) (a-label z l) = rw (k, z) (sym (ne-eqb 1025 (d .p) (λ w. omega arith)))
-  one-head {c} {d} (a-label k l) (a-text z) = rw (k, z) (sym (ne-eqb (c .p) 1024 (λ w. omega arith)))
-  one-head {c} {d} (a-label k l) (a-bool z) = rw (k, z) (sym (ne-eqb (c .p) 1025 (λ w. omega arith)))
-  one-head (a-label k l) (a-label z m) = rw (k, z)
+  one-head (acts-text k) (acts-text z) = rw (k, z)
+  one-head (acts-text k) (acts-bool z) = rw (k, z)
+  one-head {c = c} {d = d} (acts-text k) (acts-label z l h) = rw (k, z) (sym (ne-eqb 1024 (d .p) (λ w. omega arith)))
+  one-head (acts-bool k) (acts-text z) = rw (k, z)
+  one-head (acts-bool k) (acts-bool z) = rw (k, z)
+  one-head {c = c} {d = d} (acts-bool k) (acts-label z l h) = rw (k, z) (sym (ne-eqb 1025 (d .p) (λ w. omega arith)))
+  one-head {c = c} {d = d} (acts-label k l h) (acts-text z) = rw (k, z) (sym (ne-eqb (c .p) 1024 (λ w. omega arith)))
+  one-head {c = c} {d = d} (acts-label k l h) (acts-bool z) = rw (k, z) (sym (ne-eqb (c .p) 1025 (λ w. omega arith)))
+  one-head (acts-label k l h) (acts-label z m i) = rw (k, z)
 
   pub place-head : (a : ℕ) → PlaceKind (scriptOf s .typeRow a .kind) → headNumber s a < 1026
   unfolding headNumber

@@ -20,7 +20,7 @@ use Rattle.sheet.specs.Laid.{Laid}
 use Rattle.bits.specs.Sets.{inSet, inBoth, LowestBoth}
 use Rattle.bits.specs.Counts.{countTo, count-single, count-two}
 use Rattle.barren.specs.Flags.{flag}
-use Rattle.barren.specs.Rows.{few-types, kind-in}
+use Rattle.meaning.specs.Laws.Shaped.{few-types, kind-in}
 use Rattle.places.specs.Tables.{setOf}
 use Rattle.places.specs.Firsts.{PlaceKind}
 use Rattle.ties.specs.declared.Tied.{Tied}

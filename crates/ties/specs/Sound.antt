@@ -1,7 +1,7 @@
 -- What the points say is what the meaning calls tied: at the start of a root, by the first sets; behind a place, by the next sets of the one root whose model has it. So the lowest tie of the points is the lowest tie.
 use Prim.Native.Nat.{ℕ, _≤_, _<_}
 use mathlib.Core.Path.{_≡_, sym, _∙_}
-use mathlib.Core.Bool.{Bool, true, false, _&&_, _||_, not, false≢true}
+use mathlib.Core.Bool.{Bool, true, false, _&&_, not}
 use mathlib.Core.List.{List}
 use mathlib.Core.Logic.{inl, inr}
 use native.Mathlib.Omega.{arith}
@@ -13,17 +13,17 @@ use Rattle.meaning.specs.Shape.{shapely}
 use Rattle.meaning.specs.Places.{Model, Set, first, last, follows, headAt, same-head, rivals, tied, Tie, Untied}
 use Rattle.meaning.specs.Reply.{Answer, Loads}
 use Rattle.meaning.specs.Reply as reply
-use Rattle.meaning.specs.Laws.Bools.{or-left, or-right, or-cases, and-left, and-right, and-both, either, not-both}
+use Rattle.meaning.specs.Laws.Bools.{or-left, or-right, or-cases, and-left, and-right, and-both, either}
 use Rattle.meaning.specs.Laws.Tests.{in-table, table-low, table-high, some-at, some-of}
-use Rattle.meaning.specs.Laws.Wired.{has, behind, ends, absent, wired-next}
-use Rattle.meaning.specs.Laws.Apart.{model-below, model-placed, shaped-lower}
+use Rattle.meaning.specs.Laws.Wired.{has, behind, ends, wired-next}
+use Rattle.meaning.specs.Laws.Apart.{model-below, model-placed, shaped-lower, first-has, follows-has, followed-has}
 use Rattle.sheet.specs.declared.Layout.{Layout}
 use Rattle.sheet.specs.Laid.{Laid}
 use Rattle.barren.specs.Flags.{flag}
-use Rattle.barren.specs.Rows.{few-types}
+use Rattle.meaning.specs.Laws.Shaped.{few-types}
 use Rattle.barren.specs.Marks.{SaysBarren}
 use Rattle.places.specs.Tables.{modelOf, setOf, isRoot, Tables, Free, Rooted, Wires}
-use Rattle.places.specs.Firsts.{PlaceKind, first-has}
+use Rattle.places.specs.Firsts.{PlaceKind}
 use Rattle.places.specs.Sheets.{laid-tables, laid-free, laid-wires}
 use Rattle.places.specs.Users.{above, has-place, place-has, rooted-free}
 use Rattle.ties.specs.declared.Tied.{Tied}
@@ -31,24 +31,6 @@ use Rattle.ties.specs.declared.Soundness.{Soundness}
 use Rattle.ties.specs.declared.Soundness.the-variants.{Done, Barren, Tie as Tying}
 use Rattle.ties.specs.Heads.{headNumber, place-head, head-place, heads-same}
 use Rattle.ties.specs.Points.{PointTie, Least, AtStart, AtPlace, Upto}
-
--- what stands behind a place of a model occurs in it, and so does the place
-follows-has : (m : Model) (a b : ℕ) → follows m a b ≡ true → has m b ≡ true
-unfolding follows has
-follows-has Model.empty a b e = absurd (false≢true e)
-follows-has (Model.atom c) a b e = absurd (false≢true e)
-follows-has (Model.seq m n) a b e = elim (or-cases (follows m a b || follows n a b) (last m a && first n b) e) [
-  | inl h ↦ elim (or-cases (follows m a b) (follows n a b) h) [ inl g ↦ or-left (has n b) (follows-has m a b g) | inr g ↦ or-right (has m b) (follows-has n a b g) ]
-  | inr h ↦ or-right (has m b) (first-has n b (and-right (last m a) (first n b) h))
-]
-follows-has (Model.choice m n) a b e = elim (or-cases (follows m a b) (follows n a b) e) [ inl g ↦ or-left (has n b) (follows-has m a b g) | inr g ↦ or-right (has m b) (follows-has n a b g) ]
-follows-has (Model.star m) a b e = elim (or-cases (follows m a b) (last m a && first m b) e) [ inl g ↦ follows-has m a b g | inr g ↦ first-has m b (and-right (last m a) (first m b) g) ]
-
-has-follows : (m : Model) (a b : ℕ) → follows m a b ≡ true → has m a ≡ true
-has-follows m a b e = elim (either (has m a)) [
-  | inl h ↦ h
-  | inr h ↦ absurd (not-both (or-left (last m a && ends b) e) (absent m ends a b h))
-]
 
 module _ (s : List ℕ) (e : shapely s ≡ true) where
   -- a place of the model at row r
@@ -89,7 +71,7 @@ module _ (s : List ℕ) (e : shapely s ≡ true) where
           let c = x .0 in
           let p : follows (modelOf s r) c a ≡ true = and-left (follows (modelOf s r) c a) _ (x .3) in
           let q : follows (modelOf s r) c b ≡ true = and-right (follows (modelOf s r) c a) (follows (modelOf s r) c b) (x .3) in
-          let m = has-follows (modelOf s r) c a p in
+          let m = followed-has (modelOf s r) c a p in
           record {
             point = c;
             row = placed r c h m .0;

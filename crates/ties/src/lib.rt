@@ -292,18 +292,20 @@ pub enum Soundness {
     Tie(Tied),
 }
 
+// Both are judged, and then told in the document's order: Barren before Tie.
 pub fn sound(s: &[u8], l: Layout) -> Soundness
     requires { ⌜ shapely (now s) ≡ true ⌝ }
     requires { ⌜ Laid (now s) l ⌝ }
     ensures { λ r. ⌜ Loads (now (s .entry)) (soundOf r) ⌝ }
 {
     let x = barren::barren(s, l);
+    let t = lowest_tie(s, l);
+    let row = t.row;
     if x != 0 {
         return Soundness::Barren(x);
     }
-    let t = lowest_tie(s, l);
-    if t.row == 0 {
-        return Soundness::Done;
+    if row != 0 {
+        return Soundness::Tie(t);
     }
-    Soundness::Tie(t)
+    Soundness::Done
 }

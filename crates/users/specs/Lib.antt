@@ -1,1 +1,2 @@
+-- What a tally of users holds.
 pub mod Tally

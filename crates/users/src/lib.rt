@@ -6,14 +6,14 @@ use sheet::Procedure;
 use sheet::Row;
 ghost use mathlib.Core.Path.{_≡_};
 ghost use mathlib.Core.Bool.{true, _&&_, cond};
-ghost use Prim.Native.Nat.{ℕ, _+_, _≤_};
+ghost use Prim.Native.Nat.{_+_, _≤_};
 ghost use lib.Dec.{eqb};
-ghost use lib.ListN.{getD, length};
+ghost use lib.ListN.{getD};
 ghost use Rattle.meaning.specs.Tests.{every, total};
 ghost use Rattle.meaning.specs.Sheet.{scriptOf, groveOf, sheetOf};
 ghost use Rattle.meaning.specs.Shape.{hit, hits, procedure-hits, typeUses, queryUses, statementUses, forestUses, type-users, query-users, statement-users, row-users, limits-ok, users-ok};
 ghost use Rattle.meaning.specs.Shape as meaning;
-ghost use Rattle.sheet.specs.Laid.{Laid, cellsOf, procedureOf};
+ghost use Rattle.sheet.specs.Laid.{Laid, cellsOf};
 ghost use Rattle.kinds.specs.Told.{useOf, usesIn};
 ghost use Rattle.users.specs.Tally.{Tally, Added};
 

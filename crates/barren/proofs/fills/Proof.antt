@@ -7,7 +7,8 @@ use Rattle.meaning.specs.Sheet.{scriptOf}
 use Rattle.meaning.specs.Laws.Tests.{table-high}
 use Rattle.sheet.specs.Laid.{cellsOf}
 use Rattle.barren.specs.Flags.{flag, first-true, first-false, or-true, or-false}
-use Rattle.barren.specs.Rows.{label-row, seq-row, choice-row, name-row, in-types, types-high, few-names}
+use Rattle.meaning.specs.Laws.Shaped.{label-row, seq-row, choice-row, name-row, few-names}
+use Rattle.barren.specs.Rows.{in-types, types-high}
 use Rattle.barren.specs.Marks.{label-fills, seq-fills, choice-fills, name-fills, other-fills}
 use borrow.Author.Needs.{needs}
 use Rattle.barren.proofs.fills.Statement.{statement}
@@ -22,15 +23,15 @@ type-row-requires c κs = search needs
 
 -- src/lib.rt:30:14
 element-copy-out-result : tie.Need-element-copy-out-result
-element-copy-out-result c = let h = label-row (c .before .before .before .args .s .now) (c .before .before .before .pre .0) (c .before .before .before .args .i) (in-types (c .before .before .before .pre .1 .0) (c .before .before .before .pre .1 .1 .0)) (ap (λ c. c .kind) (sym (c .before .type-row .ensures)) ∙ c .match .keys1) in let z = ap (λ c. c .q) (c .before .type-row .ensures) in omega (arith, z, h .1 .lower, types-high (c .before .before .before .pre .1 .0) (c .before .before .before .pre .0) (c .before .before .before .pre .1 .1 .0 .1))
+element-copy-out-result c = let h = label-row (c .before .before .before .args .s .now) (c .before .before .before .pre .0) (c .before .before .before .args .i) (ap (λ c. c .kind) (sym (c .before .type-row .ensures)) ∙ c .match .keys1) in let z = ap (λ c. c .q) (c .before .type-row .ensures) in omega (arith, z, h .1 .lower, types-high (c .before .before .before .pre .1 .0) (c .before .before .before .pre .0) (c .before .before .before .pre .1 .1 .0 .1))
 
 -- src/lib.rt:32:16
 element-copy-out-if1 : tie.Need-element-copy-out-if1
-element-copy-out-if1 c = let h = seq-row (c .before .before .before .args .s .now) (c .before .before .before .pre .0) (c .before .before .before .args .i) (in-types (c .before .before .before .pre .1 .0) (c .before .before .before .pre .1 .1 .0)) (ap (λ c. c .kind) (sym (c .before .type-row .ensures)) ∙ c .match .keys2) in let z = ap (λ c. c .p) (c .before .type-row .ensures) in omega (arith, z, h .0 .lower, types-high (c .before .before .before .pre .1 .0) (c .before .before .before .pre .0) (c .before .before .before .pre .1 .1 .0 .1))
+element-copy-out-if1 c = let h = seq-row (c .before .before .before .args .s .now) (c .before .before .before .pre .0) (c .before .before .before .args .i) (ap (λ c. c .kind) (sym (c .before .type-row .ensures)) ∙ c .match .keys2) in let z = ap (λ c. c .p) (c .before .type-row .ensures) in omega (arith, z, h .0 .lower, types-high (c .before .before .before .pre .1 .0) (c .before .before .before .pre .0) (c .before .before .before .pre .1 .1 .0 .1))
 
 -- src/lib.rt:33:24
 element-copy-out-result-2 : tie.Need-element-copy-out-result-2
-element-copy-out-result-2 c = let h = seq-row (c .before .before .before .before .before .args .s .now) (c .before .before .before .before .before .pre .0) (c .before .before .before .before .before .args .i) (in-types (c .before .before .before .before .before .pre .1 .0) (c .before .before .before .before .before .pre .1 .1 .0)) (ap (λ c. c .kind) (sym (c .before .before .before .type-row .ensures)) ∙ c .before .before .match .keys2) in let z = ap (λ c. c .q) (c .before .before .before .type-row .ensures) in omega (arith, z, h .1 .lower, types-high (c .before .before .before .before .before .pre .1 .0) (c .before .before .before .before .before .pre .0) (c .before .before .before .before .before .pre .1 .1 .0 .1))
+element-copy-out-result-2 c = let h = seq-row (c .before .before .before .before .before .args .s .now) (c .before .before .before .before .before .pre .0) (c .before .before .before .before .before .args .i) (ap (λ c. c .kind) (sym (c .before .before .before .type-row .ensures)) ∙ c .before .before .match .keys2) in let z = ap (λ c. c .q) (c .before .before .before .type-row .ensures) in omega (arith, z, h .1 .lower, types-high (c .before .before .before .before .before .pre .1 .0) (c .before .before .before .before .before .pre .0) (c .before .before .before .before .before .pre .1 .1 .0 .1))
 
 -- src/lib.rt:33:17
 returns : tie.Need-returns
@@ -38,7 +39,7 @@ returns c = first-true (eq-eqb (getD (c .before .before .before .before .before 
 
 -- src/lib.rt:38:16
 element-copy-out-if2 : tie.Need-element-copy-out-if2
-element-copy-out-if2 c = let h = choice-row (c .before .before .before .args .s .now) (c .before .before .before .pre .0) (c .before .before .before .args .i) (in-types (c .before .before .before .pre .1 .0) (c .before .before .before .pre .1 .1 .0)) (ap (λ c. c .kind) (sym (c .before .type-row .ensures)) ∙ c .match .keys3) in let z = ap (λ c. c .p) (c .before .type-row .ensures) in omega (arith, z, h .0 .lower, types-high (c .before .before .before .pre .1 .0) (c .before .before .before .pre .0) (c .before .before .before .pre .1 .1 .0 .1))
+element-copy-out-if2 c = let h = choice-row (c .before .before .before .args .s .now) (c .before .before .before .pre .0) (c .before .before .before .args .i) (ap (λ c. c .kind) (sym (c .before .type-row .ensures)) ∙ c .match .keys3) in let z = ap (λ c. c .p) (c .before .type-row .ensures) in omega (arith, z, h .0 .lower, types-high (c .before .before .before .pre .1 .0) (c .before .before .before .pre .0) (c .before .before .before .pre .1 .1 .0 .1))
 
 -- src/lib.rt:39:17
 returns-2 : tie.Need-returns-2
@@ -46,11 +47,11 @@ returns-2 c = or-true (flag (c .before .before .before .before .before .args .fu
 
 -- src/lib.rt:41:13
 element-copy-out-result-3 : tie.Need-element-copy-out-result-3
-element-copy-out-result-3 c = let h = choice-row (c .before .before .before .before .before .args .s .now) (c .before .before .before .before .before .pre .0) (c .before .before .before .before .before .args .i) (in-types (c .before .before .before .before .before .pre .1 .0) (c .before .before .before .before .before .pre .1 .1 .0)) (ap (λ c. c .kind) (sym (c .before .before .before .type-row .ensures)) ∙ c .before .before .match .keys3) in let z = ap (λ c. c .q) (c .before .before .before .type-row .ensures) in omega (arith, z, h .1 .lower, types-high (c .before .before .before .before .before .pre .1 .0) (c .before .before .before .before .before .pre .0) (c .before .before .before .before .before .pre .1 .1 .0 .1))
+element-copy-out-result-3 c = let h = choice-row (c .before .before .before .before .before .args .s .now) (c .before .before .before .before .before .pre .0) (c .before .before .before .before .before .args .i) (ap (λ c. c .kind) (sym (c .before .before .before .type-row .ensures)) ∙ c .before .before .match .keys3) in let z = ap (λ c. c .q) (c .before .before .before .type-row .ensures) in omega (arith, z, h .1 .lower, types-high (c .before .before .before .before .before .pre .1 .0) (c .before .before .before .before .before .pre .0) (c .before .before .before .before .before .pre .1 .1 .0 .1))
 
 -- src/lib.rt:43:14
 element-copy-out-result-4 : tie.Need-element-copy-out-result-4
-element-copy-out-result-4 c = let h = name-row (c .before .before .before .args .s .now) (c .before .before .before .pre .0) (c .before .before .before .args .i) (in-types (c .before .before .before .pre .1 .0) (c .before .before .before .pre .1 .1 .0)) (ap (λ c. c .kind) (sym (c .before .type-row .ensures)) ∙ c .match .keys4) in let z = ap (λ c. c .p) (c .before .type-row .ensures) in omega (arith, z, table-high (scriptOf (c .before .before .before .args .s .now) .names) (scriptOf (c .before .before .before .args .s .now) .typeRow (c .before .before .before .args .i) .p) h, few-names (c .before .before .before .args .s .now) (c .before .before .before .pre .0))
+element-copy-out-result-4 c = let h = name-row (c .before .before .before .args .s .now) (c .before .before .before .pre .0) (c .before .before .before .args .i) (ap (λ c. c .kind) (sym (c .before .type-row .ensures)) ∙ c .match .keys4) in let z = ap (λ c. c .p) (c .before .type-row .ensures) in omega (arith, z, table-high (scriptOf (c .before .before .before .args .s .now) .names) (scriptOf (c .before .before .before .args .s .now) .typeRow (c .before .before .before .args .i) .p) h, few-names (c .before .before .before .args .s .now) (c .before .before .before .pre .0))
 
 -- src/lib.rt:18:1
 returns-3 : tie.Need-returns-3

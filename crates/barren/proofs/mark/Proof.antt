@@ -7,7 +7,8 @@ use borrow.Author.Tests.{eq-eqb, ne-eqb}
 use Rattle.meaning.specs.Sheet.{scriptOf}
 use Rattle.meaning.specs.Laws.Tests.{table-high}
 use Rattle.barren.specs.Flags.{flag}
-use Rattle.barren.specs.Rows.{named, few-types, in-names, names-high}
+use Rattle.meaning.specs.Laws.Shaped.{named, few-types}
+use Rattle.barren.specs.Rows.{in-names, names-high}
 use borrow.Author.Needs.{needs}
 use Rattle.barren.proofs.mark.Statement.{statement}
 use Rattle.barren.proofs.mark.Tie as tie

@@ -24,7 +24,7 @@ add-result : tie.Need-add-result
 add-result c = search needs
 
 returns-2 : tie.Need-returns-2
-returns-2 c = 
+returns-2 c =
     let a = c .before .before .before .before .args in
     let w = c .before .before .before .before .args .from / 64 in
     let d = c .before .before .before .before .args .from % 64 in
@@ -42,7 +42,7 @@ lowest-word-requires : tie.Need-lowest-word-requires
 lowest-word-requires c κs = search needs
 
 returns-3 : tie.Need-returns-3
-returns-3 c = 
+returns-3 c =
     let a = c .before .before .before .before .args in
     let w = c .before .before .before .before .args .from / 64 in
     let d = c .before .before .before .before .args .from % 64 in

@@ -32,7 +32,7 @@ add-result : tie.Need-add-result Inv-loop μ-loop
 add-result c = search needs
 
 returns : tie.Need-returns Inv-loop μ-loop
-returns c = 
+returns c =
     let a = c .before .before .before .before .before .args in
     let w = c .before .before .before .before .loop .w in
     let x = c .before .before .both .result in
@@ -49,14 +49,17 @@ loop-less : tie.Need-loop-less Inv-loop μ-loop
 loop-less c = search needs
 
 loop-again : tie.Need-loop-again Inv-loop μ-loop
-loop-again c = 
+loop-again c =
     let a = c .before .before .before .before .args in
     let w = c .before .before .before .loop .w in
-    let word : ℕ = common (a .t .now) (a .k) (a .u .now) (a .j) w in
-    (search needs, search needs, λ x l g. elim (eq-zero-or-pos (64 * w - x)) [
-      | inl e ↦ clear-word (a .t .now) (a .k) (a .u .now) (a .j) (64 * w) w 0 (c .before .both .result) (omega arith) (c .before .both .ensures ∙ sym (div-one word)) (omega arith) x (omega arith) g
-      | inr e ↦ c .before .before .before .loop .inv .2 x l (omega arith)
-    ])
+    let word : ℕ = common (a .t .now) (a .k) (a .u .now) (a .j) w in (
+      search needs,
+      search needs,
+      λ x l g. elim (eq-zero-or-pos (64 * w - x)) [
+        | inl e ↦ clear-word (a .t .now) (a .k) (a .u .now) (a .j) (64 * w) w 0 (c .before .both .result) (omega arith) (c .before .both .ensures ∙ sym (div-one word)) (omega arith) x (omega arith) g
+        | inr e ↦ c .before .before .before .loop .inv .2 x l (omega arith)
+      ],
+    )
 
 returns-2 : tie.Need-returns-2 Inv-loop μ-loop
 returns-2 c = nothing-left (c .before .before .args .t .now) (c .before .before .args .k) (c .before .before .args .u .now) (c .before .before .args .j) (64 * c .before .before .args .first) (λ x l g. c .before .loop .inv .2 x l (omega arith))

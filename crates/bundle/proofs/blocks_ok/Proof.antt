@@ -5,12 +5,12 @@ use Prim.Native.Nat.{_+_, _-_}
 use native.Mathlib.Omega.{arith}
 use borrow.Author.Tests.{eq-eqb, ne-eqb}
 use Rattle.meaning.specs.Tests.{every}
-use Rattle.meaning.specs.Laws.Bools.{and-both}
+use Rattle.meaning.specs.Laws.Bools.{and-both, no-left, no-right}
 use Rattle.meaning.specs.Bundle.{checkWord, blockAt}
 use Rattle.meaning.specs.Words.{wordAt}
 use Rattle.kinds.specs.Turns.{Passed, none-yet, one-more, fails, passes}
 use Rattle.bundle.specs.Calls.{number-ok, check-ok}
-use Rattle.bundle.proofs.Reading.{no-left, no-right, number-is, word-is, check-is}
+use Rattle.bundle.proofs.Reading.{number-is, word-is, check-is}
 use Rattle.bundle.proofs.blocks_ok.Statement.{statement}
 use Rattle.bundle.proofs.blocks_ok.Tie as tie
 

@@ -5,7 +5,8 @@ use native.Mathlib.Omega.{arith}
 use borrow.Author.Needs.{needs}
 use borrow.Author.Tests.{not-true, not-false}
 use Rattle.meaning.specs.Shape.{shapely}
-use Rattle.bundle.proofs.Replies.{shapely-long, writes-shape, writes-room, writes-done}
+use Rattle.meaning.specs.Laws.Shaped.{long}
+use Rattle.bundle.proofs.Replies.{writes-shape, writes-room, writes-done}
 use Rattle.bundle.proofs.write.Statement.{statement}
 use Rattle.bundle.proofs.write.Tie as tie
 
@@ -35,7 +36,7 @@ returns-2 : tie.Need-returns-2
 returns-2 c = writes-room (c .before .before .before .before .before .before .before .args .s .now) (c .before .before .before .before .before .before .before .args .out .now) (shapes (c .before .before .before)) (c .before .need-of .ensures) (c .if2 .taken)
 
 write-blocks-requires : tie.Need-write-blocks-requires
-write-blocks-requires c κs = (omega (arith, c .before .before .before .lay-out .ensures, c .before .before .need-of .ensures), omega (arith, c .before .before .need-of .ensures, shapely-long (c .before .before .before .before .before .before .before .before .args .s .now) (shapes (c .before .before .before .before))), c .before .if2 .left)
+write-blocks-requires c κs = (omega (arith, c .before .before .before .lay-out .ensures, c .before .before .need-of .ensures), omega (arith, c .before .before .need-of .ensures, long (c .before .before .before .before .before .before .before .before .args .s .now) (shapes (c .before .before .before .before))), c .before .if2 .left)
 
 same-length : tie.Need-same-length
 same-length c = search needs

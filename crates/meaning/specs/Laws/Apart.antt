@@ -2,23 +2,24 @@
 -- Then the computed next sets are wired, and words that go through one place can be exchanged behind it. A shaped sheet's types are such a table. Also: at row r, r steps down are enough, so the type and the model of a row are made of those of its parts.
 use Prim.Native.Nat.{ℕ, zero, suc, _-_, _≤_, _<_}
 use mathlib.Core.Path.{_≡_, refl, sym, _∙_, ap}
-use mathlib.Core.Bool.{Bool, true, false, _&&_, _||_, false≢true}
+use mathlib.Core.Bool.{Bool, true, false, _||_, false≢true}
 use mathlib.Core.List.{List, [], _∷_, _++_, append-assoc}
 use mathlib.Core.Logic.{_⊎_, inl, inr}
-use native.Mathlib.Decide.{decLt}
+use native.Mathlib.Decide.{ℕ-discrete}
 use native.Mathlib.Omega.{arith}
 use lib.Dec.{eqb}
 use borrow.Author.Tests.{eqb-true, eq-eqb}
 use Rattle.meaning.specs.Tests.{total, inTable}
-use Rattle.meaning.specs.Sheet.{Cells, Sheet, scriptOf, sheetOf, types-of}
+use Rattle.meaning.specs.Sheet.{Cells, scriptOf, sheetOf}
 use Rattle.meaning.specs.Kinds.{TypeRow, typeForm}
 use Rattle.meaning.specs.Types.{Ty, tyForm, ty, tyAt}
-use Rattle.meaning.specs.Places.{Word, w-empty, w-atom, w-seq, w-left, w-right, w-none, w-more, Model, modelForm, model, modelAt, modelIn, Set, next}
-use Rattle.meaning.specs.Shape.{shapely, types-ok, names-ok, users-ok, wordOk, wordsOk, typeUses, is-part, is-label, absent as unused, hit, hits, own, type-users}
-use Rattle.meaning.specs.Laws.Bools.{or-left, or-right, or-cases, and-left, and-right, either}
-use Rattle.meaning.specs.Laws.Tests.{table-low, table-high, every-at, total-at, total-two}
-use Rattle.meaning.specs.Laws.Models.{Stands, left, right, stands, no-place, one-place}
-use Rattle.meaning.specs.Laws.Wired.{Wired, ends, starting, turning, behind, has, absent, behind-seq, behind-choice, behind-star, behind-atom, or-false}
+use Rattle.meaning.specs.Places.{Word, w-empty, w-atom, w-seq, w-left, w-right, w-none, w-more, Model, modelForm, model, modelAt, modelIn, first, follows, Set, next}
+use Rattle.meaning.specs.Shape.{shapely, typeUses, hit, hits, own, type-users}
+use Rattle.meaning.specs.Laws.Bools.{or-left, or-right, or-cases, or-false}
+use Rattle.meaning.specs.Laws.Tests.{in-table, table-low, table-high, total-at, total-both}
+use Rattle.meaning.specs.Laws.Models.{Stands, left, right, stands, no-place, one-place, first-word, follows-word}
+use Rattle.meaning.specs.Laws.Shaped.{kind-in, one-user, named, label-row, seq-row, choice-row, star-row, name-row}
+use Rattle.meaning.specs.Laws.Wired.{Wired, ends, starting, turning, behind, has, absent, behind-seq, behind-choice, behind-star, behind-atom}
 
 -- ---- each place once
 
@@ -81,6 +82,16 @@ word-has (w-more {m = m} {u = u} {v = v} x y) c l k e = go (λ l k h. word-has x
     go : ((l k : List ℕ) → u ≡ l ++ c ∷ k → has m c ≡ true) → ((l k : List ℕ) → v ≡ l ++ c ∷ k → has m c ≡ true) → Stands c u v l k → has m c ≡ true
     go f g (left h p q) = f l h p
     go f g (right h p q) = g h k q
+
+-- what stands first in a model occurs in it; so does what stands behind a place, and that place
+pub first-has : (m : Model) (a : ℕ) → first m a ≡ true → has m a ≡ true
+first-has m a e = let x = first-word m a .0 e in word-has (x .1) a [] (x .0) refl
+
+pub follows-has : (m : Model) (a b : ℕ) → follows m a b ≡ true → has m b ≡ true
+follows-has m a b e = let x = follows-word m a b .0 e in word-has (x .2) b (x .0 ++ a ∷ []) (x .1) (sym (append-assoc (x .0) (a ∷ []) (b ∷ x .1)))
+
+pub followed-has : (m : Model) (a b : ℕ) → follows m a b ≡ true → has m a ≡ true
+followed-has m a b e = let x = follows-word m a b .0 e in word-has (x .2) a (x .0) (b ∷ x .1) refl
 
 empty-parts : {w : List ℕ} → Word Model.empty w → [] ≡ w
 empty-parts w-empty = refl
@@ -454,38 +465,41 @@ view c = go (c .kind) refl
     go (suc (suc (suc (suc (suc (suc (suc (suc zero)))))))) e = v-name e
     go (suc (suc (suc (suc (suc (suc (suc (suc (suc k))))))))) e = v-none
 
--- a part is a lower row, and not 0
-pub part-lower : (i w : ℕ) → 1 ≤ i → is-part i w ≡ true → w < i
-part-lower i w l e = omega (arith, table-high (i - 1) w e)
+-- the row of an atom
+pub data AtomKind (c : Cells) : Type 0 where
+  a-text : c .kind ≡ 2 → AtomKind c
+  a-bool : c .kind ≡ 3 → AtomKind c
+  a-label : c .kind ≡ 4 → AtomKind c
+  a-name : c .kind ≡ 8 → AtomKind c
 
-none-low : (i : ℕ) → Low TypeRow.none i
-unfolding Low
-none-low i = tt
+-- the places of the model at a row are atoms' rows
+pub atom-kind : (row : ℕ → Cells) (k r a : ℕ) → has (model (λ i. typeForm (row i)) k r) a ≡ true → AtomKind (row a)
+unfolding model modelForm has
+atom-kind row zero r a e = absurd (false≢true e)
+atom-kind row (suc k) r a e = go (view (row r)) e (λ j h. atom-kind row k j a h)
+  where
+    at : ℕ → Model
+    at = model (λ i. typeForm (row i)) k
 
-low-row : (s : Sheet) (c : Cells) (t : TypeRow) → View c t → (i : ℕ) → 1 ≤ i → wordsOk s (typeUses c) i c ≡ true → Low t i
-unfolding Low wordOk
-low-row s c t v-none i l h = tt
-low-row s c t v-empty i l h = tt
-low-row s c t (v-text e) i l h = l
-low-row s c t (v-bool e) i l h = l
-low-row s c t (v-label e) i l h = let g : is-label (c .p) && is-part i (c .q) && unused (c .r) ≡ true = rw e at h in
-    part-lower i (c .q) l (search (and-left, and-right))
-low-row s c t (v-seq e) i l h = let g : is-part i (c .p) && is-part i (c .q) && unused (c .r) ≡ true = rw e at h in
-    (part-lower i (c .p) l (search (and-left, and-right)), part-lower i (c .q) l (search (and-left, and-right)))
-low-row s c t (v-choice e) i l h = let g : is-part i (c .p) && is-part i (c .q) && unused (c .r) ≡ true = rw e at h in
-    (part-lower i (c .p) l (search (and-left, and-right)), part-lower i (c .q) l (search (and-left, and-right)))
-low-row s c t (v-star e) i l h = let g : is-part i (c .p) && unused (c .q) && unused (c .r) ≡ true = rw e at h in
-    part-lower i (c .p) l (search (and-left, and-right))
-low-row s c t (v-name e) i l h = l
+    go : {t : TypeRow} → View (row r) t → has (modelForm t r at) a ≡ true → ((j : ℕ) → has (at j) a ≡ true → AtomKind (row a)) → AtomKind (row a)
+    go v-none h ih = absurd (false≢true h)
+    go v-empty h ih = absurd (false≢true h)
+    go (v-text d) h ih = rw (← (eqb-true r a h)) (a-text d)
+    go (v-bool d) h ih = rw (← (eqb-true r a h)) (a-bool d)
+    go (v-label d) h ih = rw (← (eqb-true r a h)) (a-label d)
+    go (v-seq d) h ih = elim (or-cases (has (at (row r .p)) a) (has (at (row r .q)) a) h) [ inl g ↦ ih (row r .p) g | inr g ↦ ih (row r .q) g ]
+    go (v-choice d) h ih = elim (or-cases (has (at (row r .p)) a) (has (at (row r .q)) a) h) [ inl g ↦ ih (row r .p) g | inr g ↦ ih (row r .q) g ]
+    go (v-star d) h ih = ih (row r .p) h
+    go (v-name d) h ih = rw (← (eqb-true r a h)) (a-name d)
 
 -- the words of a row that are row j, among those that are parts
-abbrev type-hits : ℕ → Cells → ℕ
+abbrev pub type-hits : ℕ → Cells → ℕ
 type-hits j c = hits own j (typeUses c) c
 
-hit-one : (p j : ℕ) → p ≡ j → hit j p ≡ 1
+pub hit-one : (p j : ℕ) → p ≡ j → hit j p ≡ 1
 hit-one p j e = rw (eq-eqb p j e)
 
-side-hit : (c : Cells) (t : TypeRow) → View c t → (j : ℕ) → Side t j → 1 ≤ type-hits j c
+pub side-hit : (c : Cells) (t : TypeRow) → View c t → (j : ℕ) → Side t j → 1 ≤ type-hits j c
 unfolding Side own
 side-hit c t (v-seq e) j (inl h) = rw e (omega (arith, hit-one (c .p) j h))
 side-hit c t (v-seq e) j (inr h) = rw e (omega (arith, hit-one (c .q) j h))
@@ -506,75 +520,55 @@ distinct-row c t (v-choice e) h = λ l x. h (c .p) l (inl refl) (rw e (omega (ar
 distinct-row c t (v-star e) h = tt
 distinct-row c t (v-name e) h = tt
 
-no-side : (j : ℕ) → Side TypeRow.none j → ⊥
-unfolding Side
-no-side j s = s
-
 module _ (s : List ℕ) (e : shapely s ≡ true) where
-  types-good : types-ok (sheetOf s) ≡ true
-  types-good = search (and-left, and-right) depth 14
-
-  names-good : names-ok (sheetOf s) ≡ true
-  names-good = search (and-left, and-right) depth 14
-
-  users-good : users-ok (sheetOf s) ≡ true
-  users-good = search (and-left, and-right) depth 14
-
-  -- a row that says something is in the table
-  row-in : (i : ℕ) → (inTable (scriptOf s .types) i ≡ true) ⊎ (typeForm (scriptOf s .typeRow i) ≡ TypeRow.none)
-  unfolding scriptOf
-  row-in i = elim (either (inTable (types-of s) i)) [ inl h ↦ inl h | inr h ↦ inr (rw h) ]
-
-  type-words : (i : ℕ) → inTable (scriptOf s .types) i ≡ true → wordsOk (sheetOf s) (typeUses (scriptOf s .typeRow i)) i (scriptOf s .typeRow i) ≡ true
-  unfolding types-ok sheetOf
-  type-words i h = and-right (inTable 8 (scriptOf s .typeRow i .kind)) _ (every-at _ (scriptOf s .types) types-good i (table-low (scriptOf s .types) i h) (table-high (scriptOf s .types) i h))
-
   pub shaped-lower : Lower (scriptOf s .typeRow)
-  shaped-lower i = elim (row-in i) [
-    | inl h ↦ low-row (sheetOf s) (scriptOf s .typeRow i) _ (view (scriptOf s .typeRow i)) i (table-low (scriptOf s .types) i h) (type-words i h)
-    | inr h ↦ rw h (none-low i)
-  ]
+  unfolding Low
+  shaped-lower i = go (view (scriptOf s .typeRow i))
+    where
+      low : (k : ℕ) → scriptOf s .typeRow i .kind ≡ suc k → 1 ≤ i
+      low k h = table-low (scriptOf s .types) i (kind-in s i k h)
+
+      go : {t : TypeRow} → View (scriptOf s .typeRow i) t → Low t i
+      go v-none = tt
+      go v-empty = tt
+      go (v-text k) = low 1 k
+      go (v-bool k) = low 2 k
+      go (v-label k) = label-row s e i k .1 .lower
+      go (v-seq k) = let p = seq-row s e i k in (p .0 .lower, p .1 .lower)
+      go (v-choice k) = let p = choice-row s e i k in (p .0 .lower, p .1 .lower)
+      go (v-star k) = star-row s e i k .lower
+      go (v-name k) = low 7 k
 
   pub shaped-labelled : Labelled (scriptOf s .typeRow) (scriptOf s .nameRow)
-  unfolding names-ok wordOk sheetOf
-  shaped-labelled i k = elim (row-in i) [
-    | inl h ↦ (let x = scriptOf s .typeRow i .p in
-        let g : inTable (scriptOf s .names) x && unused (scriptOf s .typeRow i .q) && unused (scriptOf s .typeRow i .r) ≡ true = rw k at (type-words i h) in
-        let d : inTable (scriptOf s .names) x ≡ true = search (and-left, and-right) in
-        eqb-true _ 4 (and-right (inTable (scriptOf s .types) (scriptOf s .nameRow x)) _ (every-at _ (scriptOf s .names) names-good x (table-low (scriptOf s .names) x d) (table-high (scriptOf s .names) x d))))
-    | inr h ↦ (let g : TypeRow.name (scriptOf s .typeRow i .p) ≡ TypeRow.none = rw k at h in let z : _≡_ {A = ℕ} 0 1 = cc in absurd (omega arith))
-  ]
+  shaped-labelled i k = named s e (scriptOf s .typeRow i .p) (name-row s e i k) .1
 
   side-in : (i j : ℕ) → Side (typeForm (scriptOf s .typeRow i)) j → inTable (scriptOf s .types) i ≡ true
-  side-in i j x = elim (row-in i) [ inl h ↦ h | inr h ↦ absurd (no-side j (rw h at x)) ]
+  unfolding Side
+  side-in i j x = go (view (scriptOf s .typeRow i)) x
+    where
+      go : {t : TypeRow} → View (scriptOf s .typeRow i) t → Side t j → inTable (scriptOf s .types) i ≡ true
+      go (v-seq k) y = kind-in s i 4 k
+      go (v-choice k) y = kind-in s i 5 k
+      go (v-star k) y = kind-in s i 6 k
 
   -- a side is used once
   few-hits : (i j : ℕ) → 0 < j → Side (typeForm (scriptOf s .typeRow i)) j → total (λ i. type-hits j (scriptOf s .typeRow i)) (scriptOf s .types) ≤ 1
-  unfolding users-ok type-users sheetOf
+  unfolding type-users sheetOf
   few-hits i j l x =
-      let h = side-in i j x in
       let d = side-lower (typeForm (scriptOf s .typeRow i)) i j (shaped-lower i) x in
-      omega (arith, eqb-true (type-users (sheetOf s) j) 1 (every-at _ (scriptOf s .types) (and-left _ _ (and-left _ _ (and-left _ _ users-good))) j l (omega (arith, table-high (scriptOf s .types) i h))))
+      omega (arith, one-user s e j (in-table (scriptOf s .types) j l (omega (arith, table-high (scriptOf s .types) i (side-in i j x)))))
 
-  two-users : (i k j : ℕ) → i < k → 0 < j → Side (typeForm (scriptOf s .typeRow i)) j → Side (typeForm (scriptOf s .typeRow k)) j → ⊥
-  two-users i k j d l x y = omega (
-    arith,
-    few-hits i j l x,
-    side-hit (scriptOf s .typeRow i) _ (view (scriptOf s .typeRow i)) j x,
-    side-hit (scriptOf s .typeRow k) _ (view (scriptOf s .typeRow k)) j y,
-    total-two (λ i. type-hits j (scriptOf s .typeRow i)) (scriptOf s .types) i k (table-low (scriptOf s .types) i (side-in i j x)) d (table-high (scriptOf s .types) k (side-in k j y)),
-  )
+  one-side : (i j : ℕ) → Side (typeForm (scriptOf s .typeRow i)) j → (1 ≤ i) × (i ≤ scriptOf s .types) × (1 ≤ type-hits j (scriptOf s .typeRow i))
+  one-side i j x = let h = side-in i j x in
+      (table-low (scriptOf s .types) i h, table-high (scriptOf s .types) i h, side-hit (scriptOf s .typeRow i) _ (view (scriptOf s .typeRow i)) j x)
 
   pub shaped-once : Once (scriptOf s .typeRow)
   shaped-once = record {
-    user = λ i k j l x y. elim (decLt i k) [
-      | yes d ↦ absurd (two-users i k j d l x y)
-      | no d ↦ elim (decLt k i) [ yes d′ ↦ absurd (two-users k i j d′ l y x) | no d′ ↦ omega arith ]
+    user = λ i k j l x y. elim (ℕ-discrete i k) [
+      | yes d ↦ d
+      | no d ↦ (let p = one-side i j x in let q = one-side k j y in
+          absurd (omega (arith, few-hits i j l x, p .2, q .2, total-both (λ i. type-hits j (scriptOf s .typeRow i)) (scriptOf s .types) i k (p .0) (p .1) (q .0) (q .1) d)))
     ];
-    sides = λ i. distinct-row (scriptOf s .typeRow i) _ (view (scriptOf s .typeRow i)) (λ j l x n. omega (
-      arith,
-      few-hits i j l x,
-      n,
-      total-at (λ i. type-hits j (scriptOf s .typeRow i)) (scriptOf s .types) i (table-low (scriptOf s .types) i (side-in i j x)) (table-high (scriptOf s .types) i (side-in i j x)),
-    ));
+    sides = λ i. distinct-row (scriptOf s .typeRow i) _ (view (scriptOf s .typeRow i)) (λ j l x n. (let p = one-side i j x in
+        omega (arith, few-hits i j l x, n, total-at (λ i. type-hits j (scriptOf s .typeRow i)) (scriptOf s .types) i (p .0) (p .1))));
   }

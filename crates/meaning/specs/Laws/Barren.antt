@@ -1,18 +1,22 @@
 -- A marking of the names that is closed, and whose marks are all earned, marks exactly the names that are not barren: by induction on what is of a type.
--- As many rounds of marking as there are names close it: a round that is not the last adds a mark.
+-- A round of marking that adds no mark leaves it closed; and where as many are marked as there are names, all are.
 use Prim.Native.Nat.{ℕ, zero, suc, _≤_, _<_}
 use mathlib.Core.Path.{_≡_, refl}
-use mathlib.Core.Bool.{Bool, true, false, _&&_, _||_, not, cond}
-use mathlib.Core.List.{[]}
+use mathlib.Core.Bool.{Bool, true, false, _&&_, _||_, cond}
+use mathlib.Core.List.{List, []}
 use mathlib.Core.Logic.{_⊎_, inl, inr, _↔_}
 use native.Mathlib.Nat.{eq-or-lt-of-le}
 use native.Mathlib.Omega.{arith}
-use borrow.Author.Tests.{not-true}
-use Rattle.meaning.specs.Tests.{some, total, inTable}
+use Rattle.meaning.specs.Tests.{total, inTable}
+use Rattle.meaning.specs.Sheet.{Cells, scriptOf}
+use Rattle.meaning.specs.Kinds.{TypeRow, typeForm}
 use Rattle.meaning.specs.Forest.{Tree, Forest, nil, only, _⊕_}
-use Rattle.meaning.specs.Types.{Ty, Named, Of, of-empty, of-text, of-bool, of-label, of-seq, of-left, of-right, of-none, of-more, of-name, Barren, Fertile}
+use Rattle.meaning.specs.Types.{Ty, Named, tyForm, ty, tyAt, declared, namesIn, Of, of-empty, of-text, of-bool, of-label, of-seq, of-left, of-right, of-none, of-more, of-name, Barren, Fertile}
+use Rattle.meaning.specs.Shape.{shapely}
 use Rattle.meaning.specs.Laws.Bools.{or-left, or-right, or-cases, and-left, and-right, and-both, either, not-both}
-use Rattle.meaning.specs.Laws.Tests.{table-low, table-high, some-at, some-of}
+use Rattle.meaning.specs.Laws.Tests.{table-low, table-high}
+use Rattle.meaning.specs.Laws.Shaped.{name-row}
+use Rattle.meaning.specs.Laws.Apart.{View, v-none, v-empty, v-text, v-bool, v-label, v-seq, v-choice, v-star, v-name, view}
 
 -- a type has a forest, by the marks of its names
 unfoldable pub fills : (ℕ → Bool) → Ty → Bool
@@ -60,12 +64,17 @@ one-keeps : (a b : Bool) → (a ≡ true → b ≡ true) → cond a 1 0 ≤ cond
 one-keeps true b h = rw (h refl) (omega arith)
 one-keeps false b h = omega arith
 
-marks-most : (live : ℕ → Bool) (n : ℕ) → marks live n ≤ n
+pub marks-none : (live : ℕ → Bool) → ((x : ℕ) → live x ≡ false) → (n : ℕ) → marks live n ≡ 0
+unfolding total
+marks-none live h zero = refl
+marks-none live h (suc n) = rw (marks-none live h n, h (suc n))
+
+pub marks-most : (live : ℕ → Bool) (n : ℕ) → marks live n ≤ n
 unfolding total
 marks-most live zero = omega arith
 marks-most live (suc n) = omega (arith, marks-most live n, one-most (live (suc n)))
 
-marks-all : (live : ℕ → Bool) (n : ℕ) → n ≤ marks live n → (x : ℕ) → 1 ≤ x → x ≤ n → live x ≡ true
+pub marks-all : (live : ℕ → Bool) (n : ℕ) → n ≤ marks live n → (x : ℕ) → 1 ≤ x → x ≤ n → live x ≡ true
 unfolding total
 marks-all live zero h x p q = absurd (omega arith)
 marks-all live (suc n) h x p q = go (either (live (suc n))) (λ g l. marks-all live n g x p l)
@@ -78,7 +87,7 @@ marks-all live (suc n) h x p q = go (either (live (suc n))) (λ g l. marks-all l
     go (inr e) k = let g = rw e at h in absurd (omega (arith, marks-most live n))
 
 module _ (live next : ℕ → Bool) (keeps : (x : ℕ) → live x ≡ true → next x ≡ true) where
-  marks-keep : (n : ℕ) → marks live n ≤ marks next n
+  pub marks-keep : (n : ℕ) → marks live n ≤ marks next n
   unfolding total
   marks-keep zero = omega arith
   marks-keep (suc n) = omega (arith, marks-keep n, one-keeps (live (suc n)) (next (suc n)) (keeps (suc n)))
@@ -191,29 +200,39 @@ module _ (names : ℕ → Named) where
     pub still-closed : (live next : ℕ → Bool) → Round live next → Earned next → Closed live → Closed next
     still-closed live next r c k x h e = r .keeps x (fertile-marked live k x h (content-fertile next c x e))
 
-    -- k rounds on: k marks, or closed
-    abbrev pub Far : ℕ → (ℕ → Bool) → Type 0
-    Far k live = (k ≤ marks live n) ⊎ Closed live
-
-    pub far-none : (live : ℕ → Bool) → Far 0 live
-    far-none live = inl (omega arith)
-
-    pub far-round : (k : ℕ) (live next : ℕ → Bool) → Round live next → Earned next → Far k live → Far (suc k) next
-    far-round k live next r c (inr h) = inr (still-closed live next r c h)
-    far-round k live next r c (inl h) = go (some (λ x. next x && not (live x)) n) refl
+    -- after a round that adds no mark, none can be added
+    pub idle-round : (live next : ℕ → Bool) → Round live next → Earned next → marks next n ≤ marks live n → Closed next
+    idle-round live next r c l = still-closed live next r c (idle-closed live next r (λ x h m. old x h m (either (live x))))
       where
-        go : (t : Bool) → some (λ x. next x && not (live x)) n ≡ t → Far (suc k) next
-        go true e =
-            let x = some-of (λ x. next x && not (live x)) n e in
-            let m = marks-more live next (r .keeps) n (x .0) (x .1) (x .2) (not-true (live (x .0)) (and-right (next (x .0)) (not (live (x .0))) (x .3))) (and-left (next (x .0)) (not (live (x .0))) (x .3)) in
-            inl (omega arith)
-        go false e = inr (still-closed live next r c (idle-closed live next r (λ x h m. old x h m (either (live x)))))
-          where
-            old : (x : ℕ) → Name n x → next x ≡ true → (live x ≡ true) ⊎ (live x ≡ false) → live x ≡ true
-            old x h m (inl q) = q
-            old x h m (inr q) = absurd (not-both (some-at (λ x. next x && not (live x)) n x (table-low n x h) (table-high n x h) (rw (m, q))) e)
+        old : (x : ℕ) → Name n x → next x ≡ true → (live x ≡ true) ⊎ (live x ≡ false) → live x ≡ true
+        old x h m (inl q) = q
+        old x h m (inr q) = absurd (omega (arith, l, marks-more live next (r .keeps) n x (table-low n x h) (table-high n x h) q m))
 
-    -- as many rounds as there are names
-    pub far-closed : (live : ℕ → Bool) → Far n live → Closed live
-    far-closed live (inl h) x m e = marks-all live n h x (table-low n x m) (table-high n x m)
-    far-closed live (inr h) x m e = h x m e
+-- ---- the types at the rows of a table
+
+-- the names in the type at a row are named by rows of kind 8
+pub over-rows : (row : ℕ → Cells) (P : ℕ → Type 0) → ((i : ℕ) → row i .kind ≡ 8 → P (row i .p)) → (k r : ℕ) → Over P (ty (λ i. typeForm (row i)) k r)
+unfolding ty tyForm Over
+over-rows row P h zero r = tt
+over-rows row P h (suc k) r = go (view (row r)) (over-rows row P h k)
+  where
+    go : {t : TypeRow} → View (row r) t → ((j : ℕ) → Over P (ty (λ i. typeForm (row i)) k j)) → Over P (tyForm t (ty (λ i. typeForm (row i)) k))
+    go v-none ih = tt
+    go v-empty ih = tt
+    go (v-text e) ih = tt
+    go (v-bool e) ih = tt
+    go (v-label e) ih = ih (row r .q)
+    go (v-seq e) ih = (ih (row r .p), ih (row r .q))
+    go (v-choice e) ih = (ih (row r .p), ih (row r .q))
+    go (v-star e) ih = ih (row r .p)
+    go (v-name e) ih = h r e
+
+-- the type at a row names names of the sheet only
+pub declared-over : (s : List ℕ) → shapely s ≡ true → (r : ℕ) → Over (Name (scriptOf s .names)) (declared (scriptOf s) r)
+unfolding tyAt
+declared-over s e r = over-rows (scriptOf s .typeRow) (Name (scriptOf s .names)) (name-row s e) r r
+
+-- and so does the content of a name: what the laws of barren names ask
+pub contents-over : (s : List ℕ) → shapely s ≡ true → (x : ℕ) → Name (scriptOf s .names) x → Over (Name (scriptOf s .names)) (namesIn (scriptOf s) x .content)
+unfolding namesIn
+contents-over s e x h = declared-over s e (scriptOf s .typeRow (scriptOf s .nameRow x) .q)

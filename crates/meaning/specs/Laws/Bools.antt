@@ -25,6 +25,20 @@ and-right false b e = absurd (false≢true e)
 pub and-both : (a b : Bool) → a ≡ true → b ≡ true → a && b ≡ true
 and-both a b p q = rw (p, q)
 
+pub no-left : {a : Bool} (b : Bool) → a ≡ false → a && b ≡ false
+no-left b e = rw e
+
+pub no-right : (a : Bool) {b : Bool} → b ≡ false → a && b ≡ false
+no-right true e = e
+no-right false e = refl
+
+pub and-false : (a : Bool) → a && false ≡ false
+and-false a = no-right a refl
+
+pub or-false : (a : Bool) → a || false ≡ a
+or-false true = refl
+or-false false = refl
+
 -- a test is passed or not, with its equation
 pub either : (a : Bool) → (a ≡ true) ⊎ (a ≡ false)
 either true = inl refl

@@ -1,8 +1,8 @@
 -- Laws of forests joined and counted.
-use Prim.Native.Nat.{ℕ, zero, suc, _+_}
-use mathlib.Core.Path.{_≡_, refl, sym, _∙_, ap}
+use Prim.Native.Nat.{_+_}
+use mathlib.Core.Path.{_≡_, refl, ap}
 use native.Mathlib.Omega.{arith}
-use Rattle.meaning.specs.Forest.{Tree, Forest, nil, cons, _⊕_, count}
+use Rattle.meaning.specs.Forest.{Forest, nil, cons, _⊕_, count}
 
 pub ⊕-nil : (f : Forest) → f ⊕ nil ≡ f
 unfolding _⊕_

@@ -1,6 +1,6 @@
 -- Two passes over a table of type rows, first bottom up and then top down, leave sets that are wired: what each row asks of its parts' sets is enough. By induction on rows.
 use Prim.Native.Nat.{ℕ, zero, suc, _≤_, _<_}
-use mathlib.Core.Path.{_≡_, refl, _∙_}
+use mathlib.Core.Path.{_≡_, _∙_}
 use mathlib.Core.Bool.{Bool, true, false, _&&_, _||_}
 use native.Mathlib.Omega.{arith}
 use lib.Dec.{eqb}

@@ -8,6 +8,7 @@ use lib.ListN.{getD}
 use Rattle.meaning.specs.Tests.{inTable}
 use Rattle.meaning.specs.Sheet.{Cells}
 use Rattle.meaning.specs.Forest.{Tree, Forest, nil, cons, textAt, treeForm, forest, forestAt}
+use Rattle.meaning.specs.Laws.Bools.{not-both}
 use Rattle.meaning.specs.Laws.Tests.{table-high}
 
 -- row r refers to lower rows only; texts and bools, kinds 1 to 3, have no child
@@ -31,6 +32,18 @@ module _ (byte : ℕ → ℕ) where
   childless-kind p q (suc (suc zero)) f g e = refl
   childless-kind p q (suc (suc (suc zero))) f g e = refl
   childless-kind p q (suc (suc (suc (suc k)))) f g e = absurd (omega (arith, table-high 3 (suc (suc (suc (suc k)))) e))
+
+  node-kind : (p q k : ℕ) (f : Forest) → inTable 3 k ≡ false
+      → getD (Tree.node p f ∷ Tree.text (textAt byte p q) ∷ Tree.bool false ∷ Tree.bool true ∷ []) k (Tree.node p f) ≡ Tree.node p f
+  node-kind p q zero f e = refl
+  node-kind p q (suc zero) f e = absurd (not-both refl e)
+  node-kind p q (suc (suc zero)) f e = absurd (not-both refl e)
+  node-kind p q (suc (suc (suc zero))) f e = absurd (not-both refl e)
+  node-kind p q (suc (suc (suc (suc k)))) f e = refl
+
+  -- a row of any kind but 1 to 3 is a labelled tree
+  pub node-form : (c : Cells) (f : Forest) → inTable 3 (c .kind) ≡ false → treeForm byte c f ≡ Tree.node (c .p) f
+  node-form c f e = node-kind (c .p) (c .q) (c .kind) f e
 
   -- a text or a bool is the same whatever its child would be; the others go by their child
   pub tree-same : (c : Cells) (f g : Forest) → (inTable 3 (c .kind) ≡ false → f ≡ g) → treeForm byte c f ≡ treeForm byte c g

@@ -1,7 +1,7 @@
 -- Shape's scope test in any number of steps: rows refer to lower rows, so a test passed in as many steps as a row's number is passed in any number of them.
 -- The evaluators take as many steps as there are levels of depth left; a call's arguments are as many as its body has parameters.
-use Prim.Native.Nat.{ℕ, zero, suc, _+_, _-_, _≤_, _<_}
-use mathlib.Core.Path.{_≡_, refl, sym, ap, _∙_, subst}
+use Prim.Native.Nat.{ℕ, zero, suc, _+_, _-_, _≤_}
+use mathlib.Core.Path.{_≡_, refl, sym, ap, subst}
 use mathlib.Core.Bool.{Bool, true, false, _&&_, cond, false≢true}
 use lib.Dec.{eqb}
 use mathlib.Core.List.{List, [], _∷_, _++_}
@@ -10,29 +10,27 @@ use borrow.Author.Tests.{ne-eqb}
 use Rattle.meaning.specs.Tests.{inTable}
 use Rattle.meaning.specs.Sheet.{Cells, Procedure, Script, Sheet, queries-of, statements-of, scriptOf, sheetOf}
 use Rattle.meaning.specs.Kinds.{Query, Statement, queryForm, statementForm, queryAt, statementAt, present}
-use Rattle.meaning.specs.Shape.{Scope, a-forest, a-tree, unused, query, argument, wordOk, wordsOk, queryUses, statementUses, queries-ok, statements-ok, roots-ok, procedures-ok, has-place, query-scope, arguments-scope, statement-scope, parameters-scope, query-scoped, statement-scoped, scope-ok, shapely}
+use Rattle.meaning.specs.Shape.{Scope, a-forest, a-tree, unused, query, argument, wordOk, wordsOk, queryUses, statementUses, has-place, query-scope, arguments-scope, statement-scope, parameters-scope, query-scoped, statement-scoped, scope-ok, shapely}
 use Rattle.meaning.specs.Laws.Bools.{and-left, and-right, and-both, not-both}
 use Rattle.meaning.specs.Laws.Tests.{every-at, table-low, table-high}
+use Rattle.meaning.specs.Laws.Shaped.{cells, Part, part-of, queries-say, statements-say, body-says, roots, queries-pass, statements-pass, procedures-pass, roots-pass, scope-pass}
 
 -- ---- the parts of a row are lower rows
-
-abbrev Part : ℕ → ℕ → Type 0
-Part p i = (1 ≤ p) × (p < i)
 
 abbrev LowerQuery : Query → ℕ → Type 0
 LowerQuery Query.none i = Unit {0}
 LowerQuery Query.empty i = Unit {0}
-LowerQuery (Query.join p q) i = (Part p i) × (Part q i)
-LowerQuery (Query.tree n q) i = Part q i
+LowerQuery (Query.join p q) i = (Part i p) × (Part i q)
+LowerQuery (Query.tree n q) i = Part i q
 LowerQuery (Query.text p q) i = Unit {0}
 LowerQuery (Query.bool b) i = Unit {0}
 LowerQuery (Query.variable v) i = Unit {0}
-LowerQuery (Query.letin p q) i = (Part p i) × (Part q i)
-LowerQuery (Query.if p q r) i = (Part p i) × (Part q i) × (Part r i)
-LowerQuery (Query.same p q) i = (Part p i) × (Part q i)
+LowerQuery (Query.letin p q) i = (Part i p) × (Part i q)
+LowerQuery (Query.if p q r) i = (Part i p) × (Part i q) × (Part i r)
+LowerQuery (Query.same p q) i = (Part i p) × (Part i q)
 LowerQuery (Query.children v) i = Unit {0}
-LowerQuery (Query.pick p l) i = Part p i
-LowerQuery (Query.for p q) i = (Part p i) × (Part q i)
+LowerQuery (Query.pick p l) i = Part i p
+LowerQuery (Query.for p q) i = (Part i p) × (Part i q)
 
 -- queries are rows of their table, of n rows
 abbrev Asked : ℕ → ℕ → Type 0
@@ -45,46 +43,40 @@ AllAsked n (q ∷ l) = (Asked n q) × (AllAsked n l)
 abbrev LowerStatement : ℕ → Statement → ℕ → Type 0
 LowerStatement n Statement.none i = Unit {0}
 LowerStatement n Statement.skip i = Unit {0}
-LowerStatement n (Statement.then p q) i = (Part p i) × (Part q i)
-LowerStatement n (Statement.if p q r) i = (Asked n p) × (Part q i) × (Part r i)
+LowerStatement n (Statement.then p q) i = (Part i p) × (Part i q)
+LowerStatement n (Statement.if p q r) i = (Asked n p) × (Part i q) × (Part i r)
 LowerStatement n (Statement.insert p) i = Asked n p
 LowerStatement n Statement.delete i = Unit {0}
 LowerStatement n (Statement.rename l) i = Unit {0}
-LowerStatement n (Statement.letin p q) i = (Asked n p) × (Part q i)
-LowerStatement n (Statement.snapshot p) i = Part p i
-LowerStatement n (Statement.test t r) i = Part r i
-LowerStatement n (Statement.children p) i = Part p i
-LowerStatement n (Statement.left p) i = Part p i
-LowerStatement n (Statement.right p) i = Part p i
-LowerStatement n (Statement.iter p) i = Part p i
+LowerStatement n (Statement.letin p q) i = (Asked n p) × (Part i q)
+LowerStatement n (Statement.snapshot p) i = Part i p
+LowerStatement n (Statement.test t r) i = Part i r
+LowerStatement n (Statement.children p) i = Part i p
+LowerStatement n (Statement.left p) i = Part i p
+LowerStatement n (Statement.right p) i = Part i p
+LowerStatement n (Statement.iter p) i = Part i p
 LowerStatement n (Statement.call c l) i = AllAsked n l
 
 zero-kind : (k : ℕ) → k ≡ 14 → k ≡ 0 → ⊥
 zero-kind k e f = omega arith
-
-abbrev cells : ℕ → ℕ → ℕ → ℕ → Cells
-cells k p q r = record { kind = k; p = p; q = q; r = r }
-
-below : (i w : ℕ) → inTable (i - 1) w ≡ true → Part w i
-below i w e = (table-low (i - 1) w e, omega (arith, table-low (i - 1) w e, table-high (i - 1) w e))
 
 module _ (s : Sheet) where
   query-lower : (i k p q r : ℕ) → wordsOk s (queryUses (cells k p q r)) i (cells k p q r) ≡ true → LowerQuery (queryForm (cells k p q r)) i
   unfolding wordOk
   query-lower i zero p q r e = tt
   query-lower i (suc zero) p q r e = tt
-  query-lower i (suc (suc zero)) p q r e = (below i p (search (and-left, and-right)), below i q (search (and-left, and-right)))
-  query-lower i (suc (suc (suc zero))) p q r e = below i q (search (and-left, and-right))
+  query-lower i (suc (suc zero)) p q r e = (part-of i p (search (and-left, and-right)), part-of i q (search (and-left, and-right)))
+  query-lower i (suc (suc (suc zero))) p q r e = part-of i q (search (and-left, and-right))
   query-lower i (suc (suc (suc (suc zero)))) p q r e = tt
   query-lower i (suc (suc (suc (suc (suc zero))))) p q r e = tt
   query-lower i (suc (suc (suc (suc (suc (suc zero)))))) p q r e = tt
   query-lower i (suc (suc (suc (suc (suc (suc (suc zero))))))) p q r e = tt
-  query-lower i (suc (suc (suc (suc (suc (suc (suc (suc zero)))))))) p q r e = (below i p (search (and-left, and-right)), below i q (search (and-left, and-right)))
-  query-lower i (suc (suc (suc (suc (suc (suc (suc (suc (suc zero))))))))) p q r e = (below i p (search (and-left, and-right)), below i q (search (and-left, and-right)), below i r (search (and-left, and-right)))
-  query-lower i (suc (suc (suc (suc (suc (suc (suc (suc (suc (suc zero)))))))))) p q r e = (below i p (search (and-left, and-right)), below i q (search (and-left, and-right)))
+  query-lower i (suc (suc (suc (suc (suc (suc (suc (suc zero)))))))) p q r e = (part-of i p (search (and-left, and-right)), part-of i q (search (and-left, and-right)))
+  query-lower i (suc (suc (suc (suc (suc (suc (suc (suc (suc zero))))))))) p q r e = (part-of i p (search (and-left, and-right)), part-of i q (search (and-left, and-right)), part-of i r (search (and-left, and-right)))
+  query-lower i (suc (suc (suc (suc (suc (suc (suc (suc (suc (suc zero)))))))))) p q r e = (part-of i p (search (and-left, and-right)), part-of i q (search (and-left, and-right)))
   query-lower i (suc (suc (suc (suc (suc (suc (suc (suc (suc (suc (suc zero))))))))))) p q r e = tt
-  query-lower i (suc (suc (suc (suc (suc (suc (suc (suc (suc (suc (suc (suc zero)))))))))))) p q r e = below i p (search (and-left, and-right))
-  query-lower i (suc (suc (suc (suc (suc (suc (suc (suc (suc (suc (suc (suc (suc zero))))))))))))) p q r e = (below i p (search (and-left, and-right)), below i q (search (and-left, and-right)))
+  query-lower i (suc (suc (suc (suc (suc (suc (suc (suc (suc (suc (suc (suc zero)))))))))))) p q r e = part-of i p (search (and-left, and-right))
+  query-lower i (suc (suc (suc (suc (suc (suc (suc (suc (suc (suc (suc (suc (suc zero))))))))))))) p q r e = (part-of i p (search (and-left, and-right)), part-of i q (search (and-left, and-right)))
   query-lower i (suc (suc (suc (suc (suc (suc (suc (suc (suc (suc (suc (suc (suc (suc k)))))))))))))) p q r e = tt
 
   -- an argument is there exactly where the parameter is, and is a query
@@ -116,18 +108,18 @@ module _ (s : Sheet) where
   unfolding wordOk
   statement-lower i zero p q r e = tt
   statement-lower i (suc zero) p q r e = tt
-  statement-lower i (suc (suc zero)) p q r e = (below i p (search (and-left, and-right)), below i q (search (and-left, and-right)))
-  statement-lower i (suc (suc (suc zero))) p q r e = (search (and-left, and-right), below i q (search (and-left, and-right)), below i r (search (and-left, and-right)))
+  statement-lower i (suc (suc zero)) p q r e = (part-of i p (search (and-left, and-right)), part-of i q (search (and-left, and-right)))
+  statement-lower i (suc (suc (suc zero))) p q r e = (search (and-left, and-right), part-of i q (search (and-left, and-right)), part-of i r (search (and-left, and-right)))
   statement-lower i (suc (suc (suc (suc zero)))) p q r e = search (and-left, and-right)
   statement-lower i (suc (suc (suc (suc (suc zero))))) p q r e = tt
   statement-lower i (suc (suc (suc (suc (suc (suc zero)))))) p q r e = tt
-  statement-lower i (suc (suc (suc (suc (suc (suc (suc zero))))))) p q r e = (search (and-left, and-right), below i q (search (and-left, and-right)))
-  statement-lower i (suc (suc (suc (suc (suc (suc (suc (suc zero)))))))) p q r e = below i p (search (and-left, and-right))
-  statement-lower i (suc (suc (suc (suc (suc (suc (suc (suc (suc zero))))))))) p q r e = below i r (search (and-left, and-right))
-  statement-lower i (suc (suc (suc (suc (suc (suc (suc (suc (suc (suc zero)))))))))) p q r e = below i p (search (and-left, and-right))
-  statement-lower i (suc (suc (suc (suc (suc (suc (suc (suc (suc (suc (suc zero))))))))))) p q r e = below i p (search (and-left, and-right))
-  statement-lower i (suc (suc (suc (suc (suc (suc (suc (suc (suc (suc (suc (suc zero)))))))))))) p q r e = below i p (search (and-left, and-right))
-  statement-lower i (suc (suc (suc (suc (suc (suc (suc (suc (suc (suc (suc (suc (suc zero))))))))))))) p q r e = below i p (search (and-left, and-right))
+  statement-lower i (suc (suc (suc (suc (suc (suc (suc zero))))))) p q r e = (search (and-left, and-right), part-of i q (search (and-left, and-right)))
+  statement-lower i (suc (suc (suc (suc (suc (suc (suc (suc zero)))))))) p q r e = part-of i p (search (and-left, and-right))
+  statement-lower i (suc (suc (suc (suc (suc (suc (suc (suc (suc zero))))))))) p q r e = part-of i r (search (and-left, and-right))
+  statement-lower i (suc (suc (suc (suc (suc (suc (suc (suc (suc (suc zero)))))))))) p q r e = part-of i p (search (and-left, and-right))
+  statement-lower i (suc (suc (suc (suc (suc (suc (suc (suc (suc (suc (suc zero))))))))))) p q r e = part-of i p (search (and-left, and-right))
+  statement-lower i (suc (suc (suc (suc (suc (suc (suc (suc (suc (suc (suc (suc zero)))))))))))) p q r e = part-of i p (search (and-left, and-right))
+  statement-lower i (suc (suc (suc (suc (suc (suc (suc (suc (suc (suc (suc (suc (suc zero))))))))))))) p q r e = part-of i p (search (and-left, and-right))
   statement-lower i (suc (suc (suc (suc (suc (suc (suc (suc (suc (suc (suc (suc (suc (suc zero)))))))))))))) p q r e = all-asked q r (argued i (s .script .procedureRow p .first) q (search (and-left, and-right))) (argued i (s .script .procedureRow p .second) r (search (and-left, and-right)))
   statement-lower i (suc (suc (suc (suc (suc (suc (suc (suc (suc (suc (suc (suc (suc (suc (suc k))))))))))))))) p q r e = tt
 
@@ -149,7 +141,7 @@ module _ (s : Sheet) where
 
 -- every part that passes the one passes the other
 abbrev Passes : (Scope → ℕ → Bool) → (Scope → ℕ → Bool) → ℕ → Type 0
-Passes go go′ i = (p : ℕ) → Part p i → (Γ : Scope) → go Γ p ≡ true → go′ Γ p ≡ true
+Passes go go′ i = (p : ℕ) → Part i p → (Γ : Scope) → go Γ p ≡ true → go′ Γ p ≡ true
 
 two : {a b a′ b′ : Bool} → (a ≡ true → a′ ≡ true) → (b ≡ true → b′ ≡ true) → a && b ≡ true → a′ && b′ ≡ true
 two {a} {b} {a′} {b′} f g h = and-both a′ b′ (f (and-left a b h)) (g (and-right a b h))
@@ -203,42 +195,34 @@ module _ (S : Script) (lower : (i : ℕ) → LowerQuery (queryAt S i) i) where
   unfolding query-scoped
   query-steps zero n i Γ o l h = refl
   query-steps (suc k) zero i Γ o l h = absurd (omega arith)
-  query-steps (suc k) (suc n) i Γ o l h = query-other (query-scoped S n) (query-scoped S k) i (λ p b Δ e. query-steps k n p Δ (b .0) (omega (arith, b .1)) e) Γ (queryAt S i) (lower i) h
+  query-steps (suc k) (suc n) i Γ o l h = query-other (query-scoped S n) (query-scoped S k) i (λ p b Δ e. query-steps k n p Δ (b .low) (omega (arith, b .lower)) e) Γ (queryAt S i) (lower i) h
 
 module _ (S : Script) (lower : (i : ℕ) → LowerStatement (S .queries) (statementAt S i) i) where
   statement-steps : (k n i : ℕ) (Γ : Scope) → 1 ≤ i → i ≤ n → statement-scoped S n Γ i ≡ true → statement-scoped S k Γ i ≡ true
   unfolding statement-scoped
   statement-steps zero n i Γ o l h = refl
   statement-steps (suc k) zero i Γ o l h = absurd (omega arith)
-  statement-steps (suc k) (suc n) i Γ o l h = statement-other (statement-scoped S n) (statement-scoped S k) i (λ p b Δ e. statement-steps k n p Δ (b .0) (omega (arith, b .1)) e) Γ (query-scoped S (S .queries)) (query-scoped S (S .queries)) (S .queries) (λ p b Δ e. e) (statementAt S i) (lower i) h
+  statement-steps (suc k) (suc n) i Γ o l h = statement-other (statement-scoped S n) (statement-scoped S k) i (λ p b Δ e. statement-steps k n p Δ (b .low) (omega (arith, b .lower)) e) Γ (query-scoped S (S .queries)) (query-scoped S (S .queries)) (S .queries) (λ p b Δ e. e) (statementAt S i) (lower i) h
 
 -- ---- a sheet that passes Shape
 
 module _ (s : List ℕ) (e : shapely s ≡ true) where
-  queries-pass : queries-ok (sheetOf s) ≡ true
-  queries-pass = search (and-left, and-right) depth 14
-
-  statements-pass : statements-ok (sheetOf s) ≡ true
-  statements-pass = search (and-left, and-right) depth 14
-
   -- what is no row has no part
   queries-low : (i : ℕ) → LowerQuery (queryAt (scriptOf s) i) i
-  unfolding queries-ok sheetOf scriptOf
+  unfolding sheetOf scriptOf
   queries-low i = go (inTable (queries-of s) i) refl
     where
       go : (b : Bool) → inTable (queries-of s) i ≡ b → LowerQuery (queryAt (scriptOf s) i) i
       go true h = let c = scriptOf s .queryRow i in
-          query-lower (sheetOf s) i (c .kind) (c .p) (c .q) (c .r) (and-right (inTable 13 (c .kind)) (wordsOk (sheetOf s) (queryUses c) i c) (every-at _ (queries-of s) queries-pass i (table-low _ i h) (table-high _ i h)))
+          query-lower (sheetOf s) i (c .kind) (c .p) (c .q) (c .r) (queries-say (sheetOf s) i (queries-pass s e) h)
       go false h = rw h tt
 
-  words-pass : (i : ℕ) → inTable (statements-of s) i ≡ true → wordsOk (sheetOf s) (statementUses (scriptOf s .procedureRow) (scriptOf s .statementRow i)) i (scriptOf s .statementRow i) ≡ true
-  unfolding statements-ok sheetOf scriptOf
-  words-pass i h =
-      let c = scriptOf s .statementRow i in
-      and-right (inTable 14 (c .kind)) (wordsOk (sheetOf s) (statementUses (scriptOf s .procedureRow) c) i c) (every-at _ (statements-of s) statements-pass i (table-low _ i h) (table-high _ i h))
+  words-pass : (i : ℕ) → inTable (scriptOf s .statements) i ≡ true → wordsOk (sheetOf s) (statementUses (scriptOf s .procedureRow) (scriptOf s .statementRow i)) i (scriptOf s .statementRow i) ≡ true
+  unfolding sheetOf
+  words-pass i h = statements-say (sheetOf s) i (statements-pass s e) h
 
   statements-low : (i : ℕ) → LowerStatement (scriptOf s .queries) (statementAt (scriptOf s) i) i
-  unfolding statements-ok sheetOf scriptOf
+  unfolding sheetOf scriptOf
   statements-low i = go (inTable (statements-of s) i) refl
     where
       go : (b : Bool) → inTable (statements-of s) i ≡ b → LowerStatement (scriptOf s .queries) (statementAt (scriptOf s) i) i
@@ -254,28 +238,18 @@ module _ (s : List ℕ) (e : shapely s ≡ true) where
   pub statement-in-scope : (d i : ℕ) (Γ : Scope) → inTable (scriptOf s .statements) i ≡ true → statement-scoped (scriptOf s) (scriptOf s .statements) Γ i ≡ true → statement-scoped (scriptOf s) d Γ i ≡ true
   statement-in-scope d i Γ t h = statement-steps (scriptOf s) statements-low d (scriptOf s .statements) i Γ (table-low (scriptOf s .statements) i t) (table-high (scriptOf s .statements) i t) h
 
-  scope-pass : scope-ok (scriptOf s) ≡ true
-  unfolding sheetOf
-  scope-pass = search (and-left, and-right) depth 14
-
-  roots-pass : roots-ok (sheetOf s) ≡ true
-  roots-pass = search (and-left, and-right) depth 14
-
   main-row : inTable (scriptOf s .statements) (scriptOf s .main) ≡ true
-  unfolding roots-ok sheetOf
-  main-row = let r = roots-pass in search (and-left, and-right) depth 9
+  unfolding sheetOf
+  main-row = roots (sheetOf s) (roots-pass s e) .main
 
   -- main has no variables
   pub main-in-scope : (d : ℕ) → statement-scoped (scriptOf s) d [] (scriptOf s .main) ≡ true
   unfolding scope-ok
-  main-in-scope d = statement-in-scope d (scriptOf s .main) [] main-row (and-left (statement-scoped (scriptOf s) (scriptOf s .statements) [] (scriptOf s .main)) _ scope-pass)
-
-  procedures-pass : procedures-ok (sheetOf s) ≡ true
-  procedures-pass = search (and-left, and-right) depth 14
+  main-in-scope d = statement-in-scope d (scriptOf s .main) [] main-row (and-left (statement-scoped (scriptOf s) (scriptOf s .statements) [] (scriptOf s .main)) _ (scope-pass s e))
 
   body-row : (c : ℕ) → inTable (scriptOf s .procedures) c ≡ true → inTable (scriptOf s .statements) (scriptOf s .procedureRow c .body) ≡ true
-  unfolding procedures-ok sheetOf
-  body-row c t = let r = every-at _ (scriptOf s .procedures) procedures-pass c (table-low (scriptOf s .procedures) c t) (table-high (scriptOf s .procedures) c t) in search (and-left, and-right) depth 9
+  unfolding sheetOf
+  body-row c t = body-says (sheetOf s) c (procedures-pass s e) t
 
   -- a body sees its parameters only
   abbrev pub parameters : ℕ → Scope
@@ -285,7 +259,7 @@ module _ (s : List ℕ) (e : shapely s ≡ true) where
   unfolding scope-ok
   body-in-scope d c t = statement-in-scope d (scriptOf s .procedureRow c .body) (parameters c) (body-row c t)
       (every-at (λ i. statement-scoped (scriptOf s) (scriptOf s .statements) (parameters i) (scriptOf s .procedureRow i .body)) (scriptOf s .procedures)
-      (and-right (statement-scoped (scriptOf s) (scriptOf s .statements) [] (scriptOf s .main)) _ scope-pass) c (table-low (scriptOf s .procedures) c t) (table-high (scriptOf s .procedures) c t))
+      (and-right (statement-scoped (scriptOf s) (scriptOf s .statements) [] (scriptOf s .main)) _ (scope-pass s e)) c (table-low (scriptOf s .procedures) c t) (table-high (scriptOf s .procedures) c t))
 
   -- ---- a statement row's parts, with a level of depth less
 

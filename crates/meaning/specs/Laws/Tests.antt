@@ -1,9 +1,10 @@
 -- What `every`, `some`, `total` and `inTable` say of the rows 1 to n.
 use Prim.Native.Nat.{ℕ, zero, suc, _+_, _≤_, _<_}
-use mathlib.Core.Path.{_≡_, refl, sym, _∙_, ap}
-use mathlib.Core.Bool.{Bool, true, false, _&&_, _||_, false≢true}
-use mathlib.Core.Logic.{_⊎_, inl, inr}
-use native.Mathlib.Nat.{eq-or-lt-of-le, le-of-suc-le-suc}
+use mathlib.Core.Path.{_≡_, refl}
+use mathlib.Core.Bool.{Bool, true, false≢true}
+use mathlib.Core.Logic.{inl, inr}
+use native.Mathlib.Decide.{decLt}
+use native.Mathlib.Nat.{eq-or-lt-of-le, eq-zero-or-pos, le-of-suc-le-suc}
 use native.Mathlib.Omega.{arith}
 use borrow.Author.Tests.{leb-true, le-leb}
 use lib.Dec.{leb}
@@ -65,4 +66,20 @@ module _ (amount : ℕ → ℕ) where
   total-two (suc n) r k p l q = elim (eq-or-lt-of-le q) [
     | inl h ↦ rw h (let x = total-at n r p (omega arith) in omega arith)
     | inr h ↦ (let x = total-two n r k p l (le-of-suc-le-suc h) in omega arith)
+  ]
+
+  -- in either order
+  pub total-both : (n r k : ℕ) → 1 ≤ r → r ≤ n → 1 ≤ k → k ≤ n → (r ≡ k → ⊥) → amount r + amount k ≤ total amount n
+  total-both n r k p q l m d = elim (decLt r k) [
+    | yes h ↦ total-two n r k p h m
+    | no h ↦ (let x = total-two n k r l (omega arith) q in omega arith)
+  ]
+
+  -- a sum that is not 0 has a row that is not
+  pub total-some : (n : ℕ) → 1 ≤ total amount n → (r : ℕ) × (1 ≤ r) × (r ≤ n) × (1 ≤ amount r)
+  unfolding total
+  total-some zero h = absurd (omega arith)
+  total-some (suc n) h = elim (eq-zero-or-pos (amount (suc n))) [
+    | inl e ↦ (let x = total-some n (omega arith) in (x .0, x .1, omega (arith, x .2), x .3))
+    | inr p ↦ (suc n, omega arith, omega arith, p)
   ]

@@ -9,7 +9,7 @@ use borrow.Author.Tests.{eqb-true, eq-eqb}
 use Rattle.meaning.specs.Forest.{Tree, Forest, nil, cons, only, _⊕_, count}
 use Rattle.meaning.specs.Types.{Head}
 use Rattle.meaning.specs.Places.{Model, Set, nullable, first, last, follows, start}
-use Rattle.meaning.specs.Laws.Bools.{or-left, or-right, or-cases, and-left, and-right}
+use Rattle.meaning.specs.Laws.Bools.{or-left, or-right, or-cases, and-left, and-right, and-false, or-false}
 use Rattle.meaning.specs.Laws.Forest.{⊕-nil, nil-⊕, ⊕-assoc, count-⊕}
 
 -- only End
@@ -45,14 +45,6 @@ right-law false false false nn k e = e
 star-law : (fm nm k : Bool) → fm || nm && (fm || k) ≡ true → fm || k ≡ true
 star-law true nm k e = refl
 star-law false nm k e = and-right nm k e
-
-and-false : (a : Bool) → a && false ≡ false
-and-false true = refl
-and-false false = refl
-
-pub or-false : (a : Bool) → a || false ≡ a
-or-false true = refl
-or-false false = refl
 
 -- ---- wiring
 

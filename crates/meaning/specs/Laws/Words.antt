@@ -1,15 +1,20 @@
--- Laws of words in lists of bytes: what is written as words reads back as words, and two bytes are the bytes of their word.
-use Prim.Native.Nat.{ℕ, _+_, _*_, _/_, _%_, _<_}
-use mathlib.Core.Path.{_≡_}
+-- Laws of words in lists of bytes: what is written as words reads back as words, and two bytes are the bytes of their word. Zeros are 0, within and past the end.
+use Prim.Native.Nat.{ℕ, zero, suc, _+_, _*_, _/_, _%_, _<_}
+use mathlib.Core.Path.{_≡_, refl}
 use mathlib.Core.List.{List, [], _∷_, _++_}
 use native.Mathlib.Omega.{arith}
-use lib.ListN.{getD, length}
+use lib.ListN.{getD, length, replicate}
 use lib.Seq.{getD-append-add}
 use Rattle.meaning.specs.Words.{wordAt, wordBytes}
 
 -- every byte is one; past the end stands 0
 abbrev pub Bytes : List ℕ → Type 0
 Bytes b = (i : ℕ) → getD b i 0 < 256
+
+pub zeros : (n i : ℕ) → _≡_ {A = ℕ} (getD (replicate n 0) i 0) 0
+zeros zero i = refl
+zeros (suc n) zero = refl
+zeros (suc n) (suc i) = zeros n i
 
 pub word-of-bytes : (w : ℕ) → w < 65536 → wordAt (wordBytes w) 0 ≡ w
 word-of-bytes w h = omega arith

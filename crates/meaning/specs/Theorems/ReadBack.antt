@@ -74,7 +74,8 @@ mutual
   tree-length n (bool b) next = refl
   tree-length n (node l f) next = simp length-append (omega (arith, forest-length n f))
 
-  forest-length : (n : ℕ) (f : Forest) → length (forestRows n f) ≡ forestSize f
+  -- a forest has as many rows as its size
+  pub forest-length : (n : ℕ) (f : Forest) → length (forestRows n f) ≡ forestSize f
   forest-length n nil = refl
   forest-length n (cons t f) = simp length-append (omega (arith, forest-length n f, tree-length (n + forestSize f) t (rootAfter n f)))
 

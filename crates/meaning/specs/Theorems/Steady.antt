@@ -1,17 +1,16 @@
 -- More fuel, same answer: what a run gives and what a check says stays, with its units, under every greater fuel up to the limit. By `steady` of walks, and because the tables are the same.
 use Prim.Native.Nat.{ℕ, _+_, _*_, _-_, _/_, _%_, _≤_, _<_}
-use mathlib.Core.Path.{_≡_, refl, _∙_, ap, ap₂, fun-ext}
-use mathlib.Core.Bool.{Bool, true, false, _&&_, cond, false≢true}
+use mathlib.Core.Path.{_≡_, refl, _∙_, ap, ap₂}
+use mathlib.Core.Bool.{Bool, true, false, _&&_, false≢true}
 use mathlib.Core.List.{List}
 use native.Mathlib.Omega.{arith}
 use lib.Dec.{leb}
 use lib.ListN.{getD, length, set, length-set}
 use lib.Seq.{getD-set-same, getD-set-other}
-use borrow.Author.Tests.{leb-true, le-leb}
-use Rattle.meaning.specs.Limits.{most-names, most-rows, most-procedures, most-forest-rows, most-pool, most-fuel, header-words, type-words, row-words, procedure-words}
+use borrow.Author.Tests.{le-leb}
+use Rattle.meaning.specs.Limits.{most-names, most-rows, most-procedures, most-forest-rows, most-pool, most-fuel}
 use Rattle.meaning.specs.Words.{wordAt, rowsLent}
-use Rattle.meaning.specs.Tests.{inTable}
-use Rattle.meaning.specs.Sheet.{blank, no-procedure, Script, Grove, Sheet, row3, row4, row5, scriptOf, groveOf, sheetOf, names-of, types-of, queries-of, statements-of, procedures-of, rows-of, types-at, queries-at, statements-at, procedures-at, rows-at, pool-at, need}
+use Rattle.meaning.specs.Sheet.{Script, Grove, Sheet, scriptOf, groveOf, sheetOf, pool-at}
 use Rattle.meaning.specs.Forest.{Forest}
 use Rattle.meaning.specs.Types.{Ty, namesIn}
 use Rattle.meaning.specs.Walk.{Verdict, gives, stops, Settles, Quiet, Unasked, settle}
@@ -21,7 +20,8 @@ use Rattle.meaning.specs.Check.{Judged, check-walk}
 use Rattle.meaning.specs.Shape.{Use, wordOk, types-ok, queries-ok, statements-ok, rows-ok, names-ok, procedures-ok, roots-ok, limits-ok, type-users, query-users, statement-users, row-users, users-ok, scope-ok, shaped, whole}
 use Rattle.meaning.specs.Reply.{Refusal, block, shape, barren, tie, fuel, depth, wide, mismatch, outside, unfit, stuck, scratch, room, Answer, done, refused, verdict-answer, Loads, misshapen, is-barren, is-tied, sound, Checked, walked, Ran, gave, Reply, RunReply, CheckReply}
 use Rattle.meaning.specs.Laws.Bools.{and-left, and-right, and-both}
-use Rattle.meaning.specs.Laws.Tests.{table-low, table-high}
+use Rattle.meaning.specs.Laws.Shaped.{few, limits-pass, long as shaped-long}
+use Rattle.meaning.specs.Laws.Agree.{SameTables, same-script, pool-here, need-same, same-rows}
 use Rattle.meaning.specs.Laws.Walk.{Other, steady, within-purse, settle-settles, settles-settle}
 use Rattle.meaning.specs.Theorems.Single.{one-check, one-run}
 
@@ -162,114 +162,6 @@ module _ (S : Script) (G : Grove) (c r c′ r′ : ℕ) where
   other-fuels e h k = other-first (limits-ok (sheet S G c r)) (limits-ok (sheet S G c′ r′)) (types-ok (sheet S G c′ r′)) (queries-ok (sheet S G c′ r′)) (statements-ok (sheet S G c′ r′)) (rows-ok (sheet S G c′ r′))
       (names-ok (sheet S G c r)) (procedures-ok (sheet S G c r)) (roots-ok (sheet S G c r)) (users-ok (sheet S G c r)) (scope-ok S) (rw (types-too, queries-too, statements-too, rows-too) at e) (within-limit h k)
 
--- ---- sheets with the same tables, whatever their forests and fuels
-
--- the header's words but for forest rows, pool, root and fuels, and the tables
-pub record SameTables (s s′ : List ℕ) : Type 0 where
-  pub header : (j : ℕ) → j < 10 → ¬ (j ≡ 5) → ¬ (j ≡ 6) → wordAt s′ j ≡ wordAt s j
-  pub tables : (j : ℕ) → 13 ≤ j → j < rows-at s → wordAt s′ j ≡ wordAt s j
-
--- a name's word, as `scriptOf` reads it
-abbrev row1 : List ℕ → ℕ → ℕ → ℕ → ℕ
-row1 s at n r = cond (inTable n r) (wordAt s (at + (r - 1))) 0
-
--- tables within words that are the same, below word m
-module _ (s s′ : List ℕ) (m : ℕ) (word : (j : ℕ) → 13 ≤ j → j < m → wordAt s′ j ≡ wordAt s j) (at n : ℕ) (low : 13 ≤ at) where
-  rows3 : at + type-words * n ≤ m → row3 s′ at n ≡ row3 s at n
-  rows3 high = fun-ext λ r. go r (inTable n r) refl
-    where
-      go : (r : ℕ) (b : Bool) → inTable n r ≡ b → row3 s′ at n r ≡ row3 s at n r
-      go r true e = let l = table-low n r e in let h = table-high n r e in λ i. cond (inTable n r) (record {
-        kind = word (at + type-words * (r - 1)) (omega arith) (omega arith) i;
-        p = word (at + type-words * (r - 1) + 1) (omega arith) (omega arith) i;
-        q = word (at + type-words * (r - 1) + 2) (omega arith) (omega arith) i;
-        r = 0;
-      }) blank
-      go r false e = rw e
-
-  rows4 : at + row-words * n ≤ m → row4 s′ at n ≡ row4 s at n
-  rows4 high = fun-ext λ r. go r (inTable n r) refl
-    where
-      go : (r : ℕ) (b : Bool) → inTable n r ≡ b → row4 s′ at n r ≡ row4 s at n r
-      go r true e = let l = table-low n r e in let h = table-high n r e in λ i. cond (inTable n r) (record {
-        kind = word (at + row-words * (r - 1)) (omega arith) (omega arith) i;
-        p = word (at + row-words * (r - 1) + 1) (omega arith) (omega arith) i;
-        q = word (at + row-words * (r - 1) + 2) (omega arith) (omega arith) i;
-        r = word (at + row-words * (r - 1) + 3) (omega arith) (omega arith) i;
-      }) blank
-      go r false e = rw e
-
-  rows5 : at + procedure-words * n ≤ m → row5 s′ at n ≡ row5 s at n
-  rows5 high = fun-ext λ r. go r (inTable n r) refl
-    where
-      go : (r : ℕ) (b : Bool) → inTable n r ≡ b → row5 s′ at n r ≡ row5 s at n r
-      go r true e = let l = table-low n r e in let h = table-high n r e in λ i. cond (inTable n r) (record {
-        first = word (at + procedure-words * (r - 1)) (omega arith) (omega arith) i;
-        second = word (at + procedure-words * (r - 1) + 1) (omega arith) (omega arith) i;
-        input = word (at + procedure-words * (r - 1) + 2) (omega arith) (omega arith) i;
-        output = word (at + procedure-words * (r - 1) + 3) (omega arith) (omega arith) i;
-        body = word (at + procedure-words * (r - 1) + 4) (omega arith) (omega arith) i;
-      }) no-procedure
-      go r false e = rw e
-
-  rows1 : at + n ≤ m → row1 s′ at n ≡ row1 s at n
-  rows1 high = fun-ext λ r. go r (inTable n r) refl
-    where
-      go : (r : ℕ) (b : Bool) → inTable n r ≡ b → row1 s′ at n r ≡ row1 s at n r
-      go r true e = let l = table-low n r e in let h = table-high n r e in λ i. cond (inTable n r) (word (at + (r - 1)) (omega arith) (omega arith) i) 0
-      go r false e = rw e
-
-module _ (s s′ : List ℕ) (same : SameTables s s′) where
-  -- the counts, and where the tables begin
-  names-same : names-of s′ ≡ names-of s
-  names-same = same .header 0 (omega arith) (omega arith) (omega arith)
-
-  types-same : types-of s′ ≡ types-of s
-  types-same = same .header 1 (omega arith) (omega arith) (omega arith)
-
-  queries-same : queries-of s′ ≡ queries-of s
-  queries-same = same .header 2 (omega arith) (omega arith) (omega arith)
-
-  statements-same : statements-of s′ ≡ statements-of s
-  statements-same = same .header 3 (omega arith) (omega arith) (omega arith)
-
-  procedures-same : procedures-of s′ ≡ procedures-of s
-  procedures-same = same .header 4 (omega arith) (omega arith) (omega arith)
-
-  types-here : types-at s′ ≡ types-at s
-  types-here = λ i. header-words + names-same i
-
-  queries-here : queries-at s′ ≡ queries-at s
-  queries-here = λ i. types-here i + type-words * types-same i
-
-  statements-here : statements-at s′ ≡ statements-at s
-  statements-here = λ i. queries-here i + row-words * queries-same i
-
-  procedures-here : procedures-at s′ ≡ procedures-at s
-  procedures-here = λ i. statements-here i + row-words * statements-same i
-
-  rows-here : rows-at s′ ≡ rows-at s
-  rows-here = λ i. procedures-here i + procedure-words * procedures-same i
-
-  -- they have the same script
-  pub same-script : scriptOf s′ ≡ scriptOf s
-  unfolding scriptOf
-  same-script = λ i. record {
-    names = names-same i;
-    types = types-same i;
-    queries = queries-same i;
-    statements = statements-same i;
-    procedures = procedures-same i;
-    nameRow = (ap (row1 s′ header-words) names-same ∙ rows1 s s′ (rows-at s) (same .tables) header-words (names-of s) (omega arith) (omega arith)) i;
-    typeRow = (ap₂ (row3 s′) types-here types-same ∙ rows3 s s′ (rows-at s) (same .tables) (types-at s) (types-of s) (omega arith) (omega arith)) i;
-    queryRow = (ap₂ (row4 s′) queries-here queries-same ∙ rows4 s s′ (rows-at s) (same .tables) (queries-at s) (queries-of s) (omega arith) (omega arith)) i;
-    statementRow = (ap₂ (row4 s′) statements-here statements-same ∙ rows4 s s′ (rows-at s) (same .tables) (statements-at s) (statements-of s) (omega arith) (omega arith)) i;
-    procedureRow = (ap₂ (row5 s′) procedures-here procedures-same ∙ rows5 s s′ (rows-at s) (same .tables) (procedures-at s) (procedures-of s) (omega arith) (omega arith)) i;
-    a = same .header 7 (omega arith) (omega arith) (omega arith) i;
-    b = same .header 8 (omega arith) (omega arith) (omega arith) i;
-    main = same .header 9 (omega arith) (omega arith) (omega arith) i;
-  }
-
 -- ---- sheets that differ in their fuels only: words 11 and 12
 
 pub record Alike (s s′ : List ℕ) : Type 0 where
@@ -290,27 +182,21 @@ module _ (s s′ : List ℕ) (alike : Alike s s′) where
   pub alike-script : scriptOf s′ ≡ scriptOf s
   alike-script = same-script s s′ alike-tables
 
-  pool-here : pool-at s′ ≡ pool-at s
-  pool-here = λ i. rows-here s s′ alike-tables i + row-words * low 5 (omega arith) i
-
   pub alike-grove : groveOf s′ ≡ groveOf s
   unfolding groveOf
   alike-grove = λ i. record {
     rows = low 5 (omega arith) i;
-    row = (ap₂ (row4 s′) (rows-here s s′ alike-tables) (low 5 (omega arith)) ∙ rows4 s s′ (pool-at s) (λ j h k. high j h) (rows-at s) (rows-of s) (omega arith) (omega arith)) i;
+    row = same-rows s s′ alike-tables (low 5 (omega arith)) (λ j h k. high j h) i;
     pool = low 6 (omega arith) i;
-    byte = λ k. (alike .high (2 * pool-at s′ + k) (omega arith) ∙ ap (λ p. getD s (2 * p + k) 0) pool-here) i;
+    byte = λ k. (alike .high (2 * pool-at s′ + k) (omega arith) ∙ ap (λ p. getD s (2 * p + k) 0) (pool-here s s′ alike-tables (low 5 (omega arith)))) i;
     root = low 10 (omega arith) i;
   }
-
-  need-same : need s′ ≡ need s
-  need-same = λ i. 2 * pool-here i + low 6 (omega arith) i
 
   -- and so they load alike, if the fuels are within the limit
   pub alike-loads : Loads s done → sheetOf s′ .checkFuel ≤ most-fuel → sheetOf s′ .runFuel ≤ most-fuel → Loads s′ done
   unfolding sheetOf
   alike-loads (sound e n u) c r = sound
-      (and-both (whole s′) (shaped (sheetOf s′)) (rw (need-same, alike .long) (and-left (whole s) (shaped (sheetOf s)) e))
+      (and-both (whole s′) (shaped (sheetOf s′)) (rw (need-same s s′ alike-tables (low 5 (omega arith)) (low 6 (omega arith)), alike .long) (and-left (whole s) (shaped (sheetOf s)) e))
       (rw (alike-script, alike-grove) (other-fuels (scriptOf s) (groveOf s) _ _ (wordAt s′ 11) (wordAt s′ 12) (and-right (whole s) (shaped (sheetOf s)) e) c r)))
       (rw alike-script n) (rw alike-script u)
 
@@ -348,13 +234,11 @@ module _ (s : List ℕ) (k w : ℕ) where
 
 -- a sheet that loads has its header, and its fuels are within the limit
 loads-header : {s : List ℕ} → Loads s done → 26 ≤ length s
-loads-header {s} (sound e n u) = omega (arith, leb-true (need s) (length s) (and-left (whole s) (shaped (sheetOf s)) e))
+loads-header {s} (sound e n u) = omega (arith, shaped-long s e)
 
 loads-within : {s : List ℕ} → Loads s done → (wordAt s 11 ≤ most-fuel) × (wordAt s 12 ≤ most-fuel)
-unfolding limits-ok sheetOf
-loads-within {s} (sound e n u) =
-    let l : limits-ok (sheetOf s) ≡ true = search (and-left, and-right) depth 14 in
-    (leb-true (wordAt s 11) most-fuel (search (and-left, and-right)), leb-true (wordAt s 12) most-fuel (search (and-left, and-right)))
+unfolding sheetOf
+loads-within {s} (sound e n u) = let l = few (sheetOf s) (limits-pass s e) in (l .check-fuel, l .run-fuel)
 
 module _ (s : List ℕ) (loads : Loads s done) (w : ℕ) (limit : w ≤ most-fuel) where
   pub run-alike : Alike s (withRunFuel s w)

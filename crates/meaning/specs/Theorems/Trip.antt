@@ -1,30 +1,27 @@
 -- Bundles are written and read by one rule: what is written reads back, and what reads was written, byte for byte.
 -- Block by block, by induction on their number: 512 bytes, of which 2 are its number, 508 its payload, 2 its check. A sheet is only what its counts ask for, and Shape looks at no byte of the pool.
 use Prim.Native.Nat.{ℕ, zero, suc, _+_, _*_, _-_, _%_, _≤_, _<_}
-use mathlib.Core.Path.{_≡_, refl, sym, _∙_, ap, ap₂, fun-ext}
-use mathlib.Core.Bool.{Bool, true, false, _&&_, cond}
+use mathlib.Core.Path.{_≡_, refl, sym, _∙_, ap, ap₂}
+use mathlib.Core.Bool.{Bool, true, false, _&&_}
 use mathlib.Core.List.{List, [], _∷_, _++_, append-assoc}
 use native.Mathlib.Omega.{arith}
 use lib.Dec.{eqb, leb}
 use lib.ListN.{getD, length, take, drop, length-append, length-drop, take-append-drop, List·getD-append}
 use lib.Seq.{drop-nil, take-at, drop-at, take-add, take-take, drop-drop, drop-cons, getD-take, getD-drop, length-take-le}
-use borrow.Author.Tests.{leb-true, le-leb, eqb-true, eq-eqb}
-use Rattle.meaning.specs.Limits.{most-blocks, type-words, row-words, procedure-words}
-use Rattle.meaning.specs.Tests.{inTable}
+use borrow.Author.Tests.{le-leb, eqb-true, eq-eqb}
+use Rattle.meaning.specs.Limits.{most-blocks}
 use Rattle.meaning.specs.Words.{wordAt, wordBytes}
-use Rattle.meaning.specs.Sheet.{Sheet, blank, no-procedure, row3, row4, row5, names-of, types-of, queries-of, statements-of, procedures-of, rows-of, pool-of, types-at, queries-at, statements-at, procedures-at, rows-at, need, scriptOf, groveOf, sheetOf}
+use Rattle.meaning.specs.Sheet.{Sheet, need, scriptOf, groveOf, sheetOf}
 use Rattle.meaning.specs.Shape.{wordOk, types-ok, queries-ok, statements-ok, rows-ok, names-ok, procedures-ok, roots-ok, limits-ok, type-users, query-users, statement-users, row-users, users-ok, shaped, whole, shapely}
 use Rattle.meaning.specs.Bundle.{wordSum, checkWord, filled, blockFront, block, blocks, sheetBytes, blocksFor, bundleOf, block-bytes, blockCount, blockAt, payload, payloadOf, sheetIn, numbers-ok, checks-ok, count-ok, all-zero, framed}
 use Rattle.meaning.specs.Reply.{Refusal, shape, room, done, Copied, copy-if, copied-in, read, write}
 use Rattle.meaning.specs.Laws.Bools.{and-left, and-right, and-both}
-use Rattle.meaning.specs.Laws.Tests.{table-low, table-high, every-at, every-all}
+use Rattle.meaning.specs.Laws.Tests.{every-at, every-all}
+use Rattle.meaning.specs.Laws.Shaped.{Few, few, long, limits-pass}
+use Rattle.meaning.specs.Laws.Agree.{SameTables, same-script, need-same, same-rows}
 use Rattle.meaning.specs.Laws.Words.{Bytes, word-of-bytes, bytes-of-word, word-same, word-past}
 
 -- ---- a sheet is what its counts ask for
-
-cond-same : {A : Type 0} (t : Bool) (x y d : A) → (t ≡ true → x ≡ y) → cond t x d ≡ cond t y d
-cond-same true x y d h = h refl
-cond-same false x y d h = refl
 
 and-same : (a b c d : Bool) → a ≡ b → c ≡ d → a && c ≡ b && d
 and-same a b c d p q = rw (p, q)
@@ -50,87 +47,36 @@ module _ (a b : List ℕ) (same : (i : ℕ) → i < need b → getD a i 0 ≡ ge
   header : (i : ℕ) → i < 13 → wordAt a i ≡ wordAt b i
   header i l = word i (omega arith)
 
-  row3-same : (at at′ c c′ : ℕ) → at ≡ at′ → c ≡ c′ → 2 * (at′ + type-words * c′) ≤ need b → row3 a at c ≡ row3 b at′ c′
-  row3-same at at′ c c′ e f l = rw (e, f) (fun-ext λ r. cond-same (inTable c′ r) _ _ blank (λ h.
-      let low = table-low c′ r h in
-      let high = table-high c′ r h in
-      rw (word (at′ + type-words * (r - 1)) (omega arith), word (at′ + type-words * (r - 1) + 1) (omega arith), word (at′ + type-words * (r - 1) + 2) (omega arith))))
+  tables : SameTables b a
+  tables = record { header = λ j l p q. header j (omega arith); tables = λ j l h. word j (omega arith) }
 
-  row4-same : (at at′ c c′ : ℕ) → at ≡ at′ → c ≡ c′ → 2 * (at′ + row-words * c′) ≤ need b → row4 a at c ≡ row4 b at′ c′
-  row4-same at at′ c c′ e f l = rw (e, f) (fun-ext λ r. cond-same (inTable c′ r) _ _ blank (λ h.
-      let low = table-low c′ r h in
-      let high = table-high c′ r h in
-      rw (word (at′ + row-words * (r - 1)) (omega arith), word (at′ + row-words * (r - 1) + 1) (omega arith), word (at′ + row-words * (r - 1) + 2) (omega arith), word (at′ + row-words * (r - 1) + 3) (omega arith))))
-
-  row5-same : (at at′ c c′ : ℕ) → at ≡ at′ → c ≡ c′ → 2 * (at′ + procedure-words * c′) ≤ need b → row5 a at c ≡ row5 b at′ c′
-  row5-same at at′ c c′ e f l = rw (e, f) (fun-ext λ r. cond-same (inTable c′ r) _ _ no-procedure (λ h.
-      let low = table-low c′ r h in
-      let high = table-high c′ r h in
-      rw (word (at′ + procedure-words * (r - 1)) (omega arith), word (at′ + procedure-words * (r - 1) + 1) (omega arith), word (at′ + procedure-words * (r - 1) + 2) (omega arith), word (at′ + procedure-words * (r - 1) + 3) (omega arith), word (at′ + procedure-words * (r - 1) + 4) (omega arith))))
-
-  pub need-same : need a ≡ need b
-  need-same = omega (arith, header 0 (omega arith), header 1 (omega arith), header 2 (omega arith), header 3 (omega arith), header 4 (omega arith), header 5 (omega arith), header 6 (omega arith))
-
-  pub script-same : scriptOf a ≡ scriptOf b
-  unfolding scriptOf
-  script-same =
-      let e0 = header 0 (omega arith) in
-      let e1 = header 1 (omega arith) in
-      let e2 = header 2 (omega arith) in
-      let e3 = header 3 (omega arith) in
-      let e4 = header 4 (omega arith) in
-      let names : (x : ℕ) → cond (inTable (wordAt a 0) x) (wordAt a (13 + (x - 1))) 0 ≡ cond (inTable (wordAt b 0) x) (wordAt b (13 + (x - 1))) 0 =
-      λ x. rw e0 (cond-same (inTable (wordAt b 0) x) _ _ 0 (λ h.
-      let low = table-low (wordAt b 0) x h in
-      let high = table-high (wordAt b 0) x h in
-      word (13 + (x - 1)) (omega arith))) in
-      λ i. record {
-        names = e0 i;
-        types = e1 i;
-        queries = e2 i;
-        statements = e3 i;
-        procedures = e4 i;
-        nameRow = λ x. names x i;
-        typeRow = row3-same (types-at a) (types-at b) (types-of a) (types-of b) (omega arith) e1 (omega arith) i;
-        queryRow = row4-same (queries-at a) (queries-at b) (queries-of a) (queries-of b) (omega arith) e2 (omega arith) i;
-        statementRow = row4-same (statements-at a) (statements-at b) (statements-of a) (statements-of b) (omega arith) e3 (omega arith) i;
-        procedureRow = row5-same (procedures-at a) (procedures-at b) (procedures-of a) (procedures-of b) (omega arith) e4 (omega arith) i;
-        a = header 7 (omega arith) i;
-        b = header 8 (omega arith) i;
-        main = header 9 (omega arith) i;
-      }
+  asks-same : need a ≡ need b
+  asks-same = need-same b a tables (header 5 (omega arith)) (header 6 (omega arith))
 
   blind-same : blind (sheetOf a) ≡ blind (sheetOf b)
   unfolding sheetOf groveOf
-  blind-same =
-      let e0 = header 0 (omega arith) in
-      let e1 = header 1 (omega arith) in
-      let e2 = header 2 (omega arith) in
-      let e3 = header 3 (omega arith) in
-      let e4 = header 4 (omega arith) in
-      let e5 = header 5 (omega arith) in
-      λ i. record {
-        script = script-same i;
-        grove = record {
-          rows = e5 i;
-          row = row4-same (rows-at a) (rows-at b) (rows-of a) (rows-of b) (omega arith) e5 (omega arith) i;
-          pool = header 6 (omega arith) i;
-          byte = λ x. 0;
-          root = header 10 (omega arith) i;
-        };
-        checkFuel = header 11 (omega arith) i;
-        runFuel = header 12 (omega arith) i;
-      }
+  blind-same = λ i. record {
+    script = same-script b a tables i;
+    grove = record {
+      rows = header 5 (omega arith) i;
+      row = same-rows b a tables (header 5 (omega arith)) (λ j l h. word j (omega arith)) i;
+      pool = header 6 (omega arith) i;
+      byte = λ x. 0;
+      root = header 10 (omega arith) i;
+    };
+    checkFuel = header 11 (omega arith) i;
+    runFuel = header 12 (omega arith) i;
+  }
 
   shaped-same : shaped (sheetOf a) ≡ shaped (sheetOf b)
   shaped-same = shaped-blind (sheetOf a) ∙ ap shaped blind-same ∙ sym (shaped-blind (sheetOf b))
 
   -- what lies past the counts is not looked at
   pub shapely-same : need b ≤ length a → need b ≤ length b → shapely a ≡ shapely b
-  shapely-same p q = and-same (whole a) (whole b) (shaped (sheetOf a)) (shaped (sheetOf b)) (le-leb (need a) (length a) (omega (arith, need-same)) ∙ sym (le-leb (need b) (length b) q)) shaped-same
+  shapely-same p q = and-same (whole a) (whole b) (shaped (sheetOf a)) (shaped (sheetOf b)) (le-leb (need a) (length a) (omega (arith, asks-same)) ∙ sym (le-leb (need b) (length b) q)) shaped-same
 
 pub need-front : (s : List ℕ) → need (sheetBytes s) ≡ need s
-need-front s = need-same (sheetBytes s) s (λ i l. getD-take (need s) s i 0 l)
+need-front s = asks-same (sheetBytes s) s (λ i l. getD-take (need s) s i 0 l)
 
 pub shapely-front : (s : List ℕ) (n : ℕ) → need s ≡ n → n ≤ length s → shapely (take n s) ≡ shapely s
 shapely-front s n asks long = shapely-same (take n s) s (λ i l. getD-take n s i 0 (omega arith)) (omega (arith, length-take-le n s long)) (omega arith)
@@ -274,7 +220,7 @@ module _ (b p : List ℕ) (m n : ℕ) (long : length b ≡ 512 * m) (pays : payl
 
 module _ (s : List ℕ) (n m : ℕ) (asks : need s ≡ n) (long : n ≤ length s) (parts : m ≡ blocksFor n) where
   need-filled : need (filled (508 * m) (take n s)) ≡ n
-  need-filled = need-same (filled (508 * m) (take n s)) s (λ i l. filled-at (508 * m) (take n s) i (omega arith) ∙ getD-take n s i 0 (omega arith)) ∙ asks
+  need-filled = asks-same (filled (508 * m) (take n s)) s (λ i l. filled-at (508 * m) (take n s) i (omega arith) ∙ getD-take n s i 0 (omega arith)) ∙ asks
 
   sheet-of-blocks : sheetIn (blocks m 1 (take n s)) ≡ take n s
   sheet-of-blocks =
@@ -295,16 +241,8 @@ module _ (s : List ℕ) (n m : ℕ) (asks : need s ≡ n) (long : n ≤ length s
 
 -- a sheet within the limits fits into 88 blocks
 pub few-blocks : (s : List ℕ) → limits-ok (sheetOf s) ≡ true → blocksFor (need s) ≤ most-blocks
-unfolding limits-ok sheetOf scriptOf groveOf
-few-blocks s e =
-    let names : leb (names-of s) 32 ≡ true = search (and-left, and-right) depth 14 in
-    let types : leb (types-of s) 512 ≡ true = search (and-left, and-right) depth 14 in
-    let queries : leb (queries-of s) 512 ≡ true = search (and-left, and-right) depth 14 in
-    let statements : leb (statements-of s) 512 ≡ true = search (and-left, and-right) depth 14 in
-    let procedures : leb (procedures-of s) 16 ≡ true = search (and-left, and-right) depth 14 in
-    let rows : leb (rows-of s) 2048 ≡ true = search (and-left, and-right) depth 14 in
-    let pool : leb (pool-of s) 16384 ≡ true = search (and-left, and-right) depth 14 in
-    omega (arith, leb-true)
+unfolding sheetOf scriptOf groveOf
+few-blocks s e = let l : Few (sheetOf s) = few (sheetOf s) e in omega (arith, l .names, l .types, l .queries, l .statements, l .procedures, l .rows, l .pool)
 
 -- ---- what reads was written
 
@@ -379,7 +317,7 @@ module _ (b s : List ℕ) (m n : ℕ) (f : Framed b (payload m b) m n) (asks : n
   begins-at i l = sym (getD-take n s i 0 l) ∙ ap (λ (x : List ℕ). getD x i 0) begins ∙ getD-take n (payload m b) i 0 l
 
   need-read : need s ≡ n
-  need-read = need-same s (payload m b) (λ i l. begins-at i (omega arith)) ∙ asks
+  need-read = asks-same s (payload m b) (λ i l. begins-at i (omega arith)) ∙ asks
 
   bundle-read : Bytes b → bundleOf s ≡ b
   bundle-read bytes =
@@ -456,19 +394,16 @@ module _ (b lent : List ℕ) where
       copies (framed b) Refusal.block if-shapely lent p ∙ copies (shapely (sheetIn b)) shape if-room lent q
       ∙ copies (leb (need (sheetIn b)) (length lent)) room (copied-in (sheetIn b) lent) lent (le-leb (need (sheetIn b)) (length lent) l)
 
-shapely-long : (s : List ℕ) → shapely s ≡ true → need s ≤ length s
-shapely-long s e = leb-true (need s) (length s) (and-left (whole s) (shaped (sheetOf s)) e)
-
 shapely-few : (s : List ℕ) → shapely s ≡ true → blocksFor (need s) ≤ most-blocks
-shapely-few s e = few-blocks s (search (and-left, and-right) depth 14)
+shapely-few s e = few-blocks s (limits-pass s e)
 
 -- what is shapely is read out of its bundle
 pub bundle-reads : (s lent : List ℕ) → shapely s ≡ true → need s ≤ length lent → read (bundleOf s) lent ≡ copied-in (sheetBytes s) lent
 bundle-reads s lent e l =
-    let long = shapely-long s e in
-    let sheet = sheet-of-bundle s long in
-    read-if (bundleOf s) lent (framed-bundle s long (shapely-few s e))
-    (ap shapely sheet ∙ shapely-front s (need s) refl long ∙ e)
+    let fits = long s e in
+    let sheet = sheet-of-bundle s fits in
+    read-if (bundleOf s) lent (framed-bundle s fits (shapely-few s e))
+    (ap shapely sheet ∙ shapely-front s (need s) refl fits ∙ e)
     (rw (ap need sheet ∙ need-front s) l)
     ∙ ap (λ (x : List ℕ). copied-in x lent) sheet
 

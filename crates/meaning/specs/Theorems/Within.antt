@@ -17,6 +17,7 @@ use Rattle.meaning.specs.Shape.{shapely}
 use Rattle.meaning.specs.Reply.{done, Loads, sound}
 use Rattle.meaning.specs.Laws.Tests.{table-low, table-high}
 use Rattle.meaning.specs.Laws.Forest.{⊕-nil}
+use Rattle.meaning.specs.Laws.Shaped.{kind-in}
 use Rattle.meaning.specs.Laws.Barren.{Over, Name}
 use Rattle.meaning.specs.Laws.Wired.{Wired, ends}
 use Rattle.meaning.specs.Laws.Pairs.{here, bad-end, NoneBad}
@@ -25,7 +26,7 @@ use Rattle.meaning.specs.Theorems.Worked.Sheets.{tr, row, sheet}
 use Rattle.meaning.specs.Theorems.Worked.Ties.{untied}
 use Rattle.meaning.specs.Theorems.Worked.Stated.{shape, ties, checks}
 use Rattle.meaning.specs.Theorems.Within.Sides.{decided}
-use Rattle.meaning.specs.Theorems.Within.Rows.{points, startAt, pointsOf, startOf, kind-row, Beside, own-table, found-row, sought-row}
+use Rattle.meaning.specs.Theorems.Within.Rows.{points, startAt, pointsOf, startOf, Beside, own-table, found-row, sought-row}
 use Rattle.meaning.specs.Theorems.Within.Tables.{Kept, found-kept, sought-kept}
 use Rattle.meaning.specs.Theorems.Within.Whole.{typeSide, typeStart, Plain, plainHead, plainFrom, sought-plain, sought-plain-kept, found-over}
 pub mod Sides
@@ -142,7 +143,7 @@ small-contents (suc (suc (suc zero))) e = (omega arith, λ b. refl)
 small-contents (suc (suc (suc (suc zero)))) e = absurd (omega arith)
 small-contents (suc (suc (suc (suc (suc zero))))) e = absurd (omega arith)
 small-contents (suc (suc (suc (suc (suc (suc zero)))))) e = absurd (omega arith)
-small-contents (suc (suc (suc (suc (suc (suc (suc i))))))) e = let j = suc (suc (suc (suc (suc (suc (suc i)))))) in absurd (omega (arith, table-high 6 j (kind-row small small-shaped j 3 e)))
+small-contents (suc (suc (suc (suc (suc (suc (suc i))))))) e = let j = suc (suc (suc (suc (suc (suc (suc i)))))) in absurd (omega (arith, table-high 6 j (kind-in small j 3 e)))
 
 small-kept : Kept (scriptOf small .typeRow) (scriptOf small .nameRow) 6 (start (small-model 6)) small-inner small-next
 unfolding small ties Wired

@@ -1,6 +1,7 @@
 -- `scope::queries_scoped` meets its contract. The loop's invariant: the queries above i pass, and have handed their scopes down (proofs/Loops.antt).
+use borrow.Author.Tests.{not-true, not-false}
 use borrow.Author.Needs.{needs}
-use Rattle.scope.proofs.Loops.{on, off, queries-are, query-more, query-fails, queries-end}
+use Rattle.scope.proofs.Loops.{queries-are, query-more, query-fails, queries-end}
 use Rattle.scope.proofs.Once.{facts}
 use Rattle.scope.specs.Scopes.{seen, Words, Queries}
 use Rattle.meaning.specs.Sheet.{scriptOf}
@@ -31,7 +32,7 @@ query-in-scope-requires : tie.Need-query-in-scope-requires Inv-loop μ-loop
 query-in-scope-requires c κs = (c .before .before .before .before .loop .inv .1, c .before .before .before .before .loop .inv .1 .neat (c .before .before .before .before .loop .i))
 
 returns : tie.Need-returns Inv-loop μ-loop
-returns c = query-fails (facts (c .before .before .before .before .before .before .before .before .args .s .now) (c .before .before .before .before .before .before .before .before .pre .0 .1)) (c .before .before .before .before .before .loop-test .taken) (c .before .before .before .before .before .before .loop .inv .0) (c .before .before .before .before .before .before .loop .inv .2) (c .before .before .before .query-row .ensures .0) (off (c .before .query-in-scope .result) (c .if1 .taken)) (c .before .query-in-scope .ensures)
+returns c = query-fails (facts (c .before .before .before .before .before .before .before .before .args .s .now) (c .before .before .before .before .before .before .before .before .pre .0 .1)) (c .before .before .before .before .before .loop-test .taken) (c .before .before .before .before .before .before .loop .inv .0) (c .before .before .before .before .before .before .loop .inv .2) (c .before .before .before .query-row .ensures .0) (not-true (c .before .query-in-scope .result) (c .if1 .taken)) (c .before .query-in-scope .ensures)
 
 sub-i : tie.Need-sub-i Inv-loop μ-loop
 sub-i c = search needs
@@ -41,7 +42,7 @@ loop-less c = omega (arith, c .before .before .before .before .before .loop-test
 
 loop-again : tie.Need-loop-again Inv-loop μ-loop
 loop-again c =
-    let t = query-more (facts (c .before .before .before .before .before .before .before .before .args .s .now) (c .before .before .before .before .before .before .before .before .pre .0 .1)) (c .before .before .before .before .before .loop-test .taken) (c .before .before .before .before .before .before .loop .inv .0) (c .before .before .before .before .before .before .loop .inv .2) (c .before .before .before .query-row .ensures .0) (on (c .before .query-in-scope .result) (c .if1 .left)) (c .before .query-in-scope .ensures) in
+    let t = query-more (facts (c .before .before .before .before .before .before .before .before .args .s .now) (c .before .before .before .before .before .before .before .before .pre .0 .1)) (c .before .before .before .before .before .loop-test .taken) (c .before .before .before .before .before .before .loop .inv .0) (c .before .before .before .before .before .before .loop .inv .2) (c .before .before .before .query-row .ensures .0) (not-false (c .before .query-in-scope .result) (c .if1 .left)) (c .before .query-in-scope .ensures) in
     (omega (arith, c .before .before .before .before .before .before .loop .inv .0), t .0, t .1)
 
 returns-2 : tie.Need-returns-2 Inv-loop μ-loop

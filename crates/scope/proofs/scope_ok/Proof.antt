@@ -1,5 +1,6 @@
 -- `scope::scope_ok` meets its contract: the roots, then the statements, then the queries, each from the top down (proofs/Loops.antt).
-use Rattle.scope.proofs.Loops.{on, off, fresh-words}
+use borrow.Author.Tests.{not-true, not-false}
+use Rattle.scope.proofs.Loops.{fresh-words}
 use mathlib.Core.Path.{refl, sym}
 use borrow.Author.Needs.{needs}
 use Rattle.scope.proofs.scope_ok.Statement.{statement}
@@ -12,10 +13,10 @@ statements-scoped-requires : tie.Need-statements-scoped-requires
 statements-scoped-requires c κs = ((c .before .before .before .before .before .pre .0, c .before .before .before .before .before .pre .1), (c .before .before .hand-bodies .ensures, fresh-words refl))
 
 returns : tie.Need-returns
-returns c = sym (c .before .statements-scoped .ensures .refused (off (c .before .statements-scoped .result) (c .if1 .taken)))
+returns c = sym (c .before .statements-scoped .ensures .refused (not-true (c .before .statements-scoped .result) (c .if1 .taken)))
 
 queries-scoped-requires : tie.Need-queries-scoped-requires
-queries-scoped-requires c κs = ((c .before .before .before .before .before .before .before .before .pre .0, c .before .before .before .before .before .before .before .before .pre .1), (c .before .before .statements-scoped .ensures .words (on (c .before .before .statements-scoped .result) (c .before .if1 .left)), c .before .before .statements-scoped .ensures .passed (on (c .before .before .statements-scoped .result) (c .before .if1 .left))))
+queries-scoped-requires c κs = ((c .before .before .before .before .before .before .before .before .pre .0, c .before .before .before .before .before .before .before .before .pre .1), (c .before .before .statements-scoped .ensures .words (not-false (c .before .before .statements-scoped .result) (c .before .if1 .left)), c .before .before .statements-scoped .ensures .passed (not-false (c .before .before .statements-scoped .result) (c .before .if1 .left))))
 
 returns-2 : tie.Need-returns-2
 returns-2 c = search needs

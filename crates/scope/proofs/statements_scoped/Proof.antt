@@ -1,6 +1,7 @@
 -- `scope::statements_scoped` meets its contract. The loop's invariant: the statements above i pass, and have handed their scopes down (proofs/Loops.antt).
+use borrow.Author.Tests.{not-true, not-false}
 use borrow.Author.Needs.{needs}
-use Rattle.scope.proofs.Loops.{on, off, statements-are, statements-start, statement-more, statement-fails, statements-end}
+use Rattle.scope.proofs.Loops.{statements-are, statements-start, statement-more, statement-fails, statements-end}
 use Rattle.scope.proofs.Once.{facts}
 use Rattle.scope.specs.Scopes.{seen, Words, Statements}
 use Rattle.meaning.specs.Sheet.{scriptOf}
@@ -31,7 +32,7 @@ statement-in-scope-requires : tie.Need-statement-in-scope-requires Inv-loop μ-l
 statement-in-scope-requires c κs = (c .before .before .before .before .before .loop .inv .1, c .before .before .before .before .before .loop .inv .2, c .before .before .before .before .before .loop .inv .1 .neat (c .before .before .before .before .before .loop .i))
 
 returns : tie.Need-returns Inv-loop μ-loop
-returns c = statement-fails (facts (c .before .before .before .before .before .before .before .before .before .args .s .now) (c .before .before .before .before .before .before .before .before .before .pre .0 .1)) (c .before .before .before .before .before .before .loop-test .taken) (c .before .before .before .before .before .before .before .loop .inv .0) (c .before .before .before .before .before .before .before .loop .inv .3) (c .before .before .before .before .statement-row .ensures .0) (off (c .before .statement-in-scope .result) (c .if1 .taken)) (c .before .statement-in-scope .ensures)
+returns c = statement-fails (facts (c .before .before .before .before .before .before .before .before .before .args .s .now) (c .before .before .before .before .before .before .before .before .before .pre .0 .1)) (c .before .before .before .before .before .before .loop-test .taken) (c .before .before .before .before .before .before .before .loop .inv .0) (c .before .before .before .before .before .before .before .loop .inv .3) (c .before .before .before .before .statement-row .ensures .0) (not-true (c .before .statement-in-scope .result) (c .if1 .taken)) (c .before .statement-in-scope .ensures)
 
 sub-i : tie.Need-sub-i Inv-loop μ-loop
 sub-i c = search needs
@@ -41,7 +42,7 @@ loop-less c = omega (arith, c .before .before .before .before .before .before .l
 
 loop-again : tie.Need-loop-again Inv-loop μ-loop
 loop-again c =
-    let t = statement-more (facts (c .before .before .before .before .before .before .before .before .before .args .s .now) (c .before .before .before .before .before .before .before .before .before .pre .0 .1)) (c .before .before .before .before .before .before .loop-test .taken) (c .before .before .before .before .before .before .before .loop .inv .0) (c .before .before .before .before .before .before .before .loop .inv .3) (c .before .before .before .before .statement-row .ensures .0) (on (c .before .statement-in-scope .result) (c .if1 .left)) (c .before .statement-in-scope .ensures) in
+    let t = statement-more (facts (c .before .before .before .before .before .before .before .before .before .args .s .now) (c .before .before .before .before .before .before .before .before .before .pre .0 .1)) (c .before .before .before .before .before .before .loop-test .taken) (c .before .before .before .before .before .before .before .loop .inv .0) (c .before .before .before .before .before .before .before .loop .inv .3) (c .before .before .before .before .statement-row .ensures .0) (not-false (c .before .statement-in-scope .result) (c .if1 .left)) (c .before .statement-in-scope .ensures) in
     (omega (arith, c .before .before .before .before .before .before .before .loop .inv .0), t .0, t .1, t .2)
 
 returns-2 : tie.Need-returns-2 Inv-loop μ-loop

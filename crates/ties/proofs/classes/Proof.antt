@@ -2,7 +2,7 @@
 use Prim.Native.Nat.{_≤_, _-_}
 use native.Mathlib.Omega.{arith}
 use borrow.Author.Needs.{needs}
-use Rattle.barren.specs.Rows.{few-types}
+use Rattle.meaning.specs.Laws.Shaped.{few-types}
 use Rattle.ties.specs.Classes.{Classed, classed-none, classes-all}
 use Rattle.ties.proofs.classes.Statement.{statement}
 use Rattle.ties.proofs.classes.Tie as tie

@@ -1,7 +1,8 @@
 -- `ties::classify` meets its contract: the row joins its class, or has none.
 use Prim.Native.Nat.{_+_}
 use native.Mathlib.Omega.{arith}
-use Rattle.barren.specs.Rows.{few-types, types-high}
+use Rattle.meaning.specs.Laws.Shaped.{few-types}
+use Rattle.barren.specs.Rows.{types-high}
 use Rattle.ties.specs.Classes.{classed-more, classed-skip, led-low}
 use Rattle.ties.proofs.classify.Statement.{statement}
 use Rattle.ties.proofs.classify.Tie as tie

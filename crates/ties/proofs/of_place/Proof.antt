@@ -3,7 +3,7 @@ use mathlib.Core.Path.{ap, _∙_}
 use native.Mathlib.Omega.{arith}
 use lib.ListN.{getD}
 use borrow.Author.Needs.{needs}
-use Rattle.barren.specs.Rows.{few-types}
+use Rattle.meaning.specs.Laws.Shaped.{few-types}
 use Rattle.ties.specs.Points.{of-none, of-single, of-two}
 use Rattle.ties.proofs.of_place.Statement.{statement}
 use Rattle.ties.proofs.of_place.Tie as tie

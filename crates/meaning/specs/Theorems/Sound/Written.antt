@@ -8,17 +8,18 @@ use lib.Dec.{eqb}
 use lib.ListN.{getD}
 use borrow.Author.Tests.{leb-true, ltb-true, eqb-true}
 use Rattle.meaning.specs.Tests.{inTable}
-use Rattle.meaning.specs.Limits.{most-depth, last-label, most-forest-rows, most-pool}
+use Rattle.meaning.specs.Limits.{most-depth, last-label, most-pool}
 use Rattle.meaning.specs.Sheet.{Cells, Script, Grove, Sheet, queries-of, statements-of, rows-of, scriptOf, groveOf, sheetOf}
 use Rattle.meaning.specs.Kinds.{Query, Statement, queryForm, statementForm, queryAt, statementAt}
 use Rattle.meaning.specs.Forest.{Tree, Forest, nil, cons, only, _⊕_, treeForm, forest, forestAt, forestOf}
-use Rattle.meaning.specs.Walk.{depth, Unasked, gives, Settles}
+use Rattle.meaning.specs.Walk.{Unasked, gives, Settles}
 use Rattle.meaning.specs.Run.{Env, seen, inside, kept, run-walk}
 use Rattle.meaning.specs.Figures.{Gives, g-empty, g-join, g-tree, g-text, g-bool, g-variable, g-let, g-if-true, g-if-false, g-same, g-children, g-pick, g-for, each-none, each-tree, GivesAll, all-none, all-more, Takes, t-skip, t-then, t-if-true, t-if-false, t-insert, t-delete, t-rename, t-let, t-snapshot, t-test, t-pass, t-children, t-left, t-right, t-iter, t-call, iter-none, iter-tree}
-use Rattle.meaning.specs.Shape.{wordOk, wordsOk, queryUses, statementUses, forestUses, absent, is-label as label-ok, is-size, queries-ok, statements-ok, rows-ok, limits-ok, shapely}
+use Rattle.meaning.specs.Shape.{wordOk, wordsOk, queryUses, statementUses, forestUses, absent, is-label as label-ok, is-size, shapely}
 use Rattle.meaning.specs.Reply.{done, Loads, sound, run-settled}
 use Rattle.meaning.specs.Laws.Bools.{and-left, and-right}
-use Rattle.meaning.specs.Laws.Tests.{table-low, table-high, every-at}
+use Rattle.meaning.specs.Laws.Tests.{table-high}
+use Rattle.meaning.specs.Laws.Shaped.{cells, queries-say, statements-say, rows-say, queries-pass, statements-pass, rows-pass, few-rows, few-bytes}
 use Rattle.meaning.specs.Laws.Walk.{settle-settles}
 use Rattle.meaning.specs.Theorems.ReadBack.{InPool, Words, TreeWords, decoded-in-pool}
 use Rattle.meaning.specs.Theorems.ExactRun.{derived-run}
@@ -62,9 +63,6 @@ StatementFine n (Statement.call c l) = inTable n c ≡ true
 
 abbrev RowFine : Cells → Type 0
 RowFine c = (c .p < 65536) × (c .q < 65536)
-
-abbrev cells : ℕ → ℕ → ℕ → ℕ → Cells
-cells k p q r = record { kind = k; p = p; q = q; r = r }
 
 module _ (s : Sheet) where
   label-word : (w : ℕ) → label-ok w ≡ true → w < 65536
@@ -125,51 +123,31 @@ module _ (s : Sheet) where
 
 -- in a sheet that passes Shape: rows of its tables by the tests, and what is not a row reads as zeros
 module _ (s : List ℕ) (e : shapely s ≡ true) where
-  limits-pass : limits-ok (sheetOf s) ≡ true
-  limits-pass = search (and-left, and-right) depth 14
-
-  queries-pass : queries-ok (sheetOf s) ≡ true
-  queries-pass = search (and-left, and-right) depth 14
-
-  statements-pass : statements-ok (sheetOf s) ≡ true
-  statements-pass = search (and-left, and-right) depth 14
-
-  rows-pass : rows-ok (sheetOf s) ≡ true
-  rows-pass = search (and-left, and-right) depth 14
-
-  pool-limit : groveOf s .pool ≤ most-pool
-  unfolding limits-ok sheetOf
-  pool-limit = let l = limits-pass in leb-true (groveOf s .pool) most-pool (search (and-left, and-right) depth 9)
-
-  rows-limit : groveOf s .rows ≤ most-forest-rows
-  unfolding limits-ok sheetOf
-  rows-limit = let l = limits-pass in leb-true (groveOf s .rows) most-forest-rows (search (and-left, and-right) depth 9)
-
   queries-fine : (i : ℕ) → QueryFine (queryAt (scriptOf s) i)
-  unfolding queries-ok sheetOf scriptOf
+  unfolding sheetOf scriptOf
   queries-fine i = go (inTable (queries-of s) i) refl
     where
       go : (b : Bool) → inTable (queries-of s) i ≡ b → QueryFine (queryAt (scriptOf s) i)
       go true h = let c = scriptOf s .queryRow i in
-          query-fine (sheetOf s) pool-limit i (c .kind) (c .p) (c .q) (c .r) (and-right (inTable 13 (c .kind)) (wordsOk (sheetOf s) (queryUses c) i c) (every-at _ (queries-of s) queries-pass i (table-low _ i h) (table-high _ i h)))
+          query-fine (sheetOf s) (few-bytes s e) i (c .kind) (c .p) (c .q) (c .r) (queries-say (sheetOf s) i (queries-pass s e) h)
       go false h = rw h tt
 
   statements-fine : (i : ℕ) → StatementFine (scriptOf s .procedures) (statementAt (scriptOf s) i)
-  unfolding statements-ok sheetOf scriptOf
+  unfolding sheetOf scriptOf
   statements-fine i = go (inTable (statements-of s) i) refl
     where
       go : (b : Bool) → inTable (statements-of s) i ≡ b → StatementFine (scriptOf s .procedures) (statementAt (scriptOf s) i)
       go true h = let c = scriptOf s .statementRow i in
-          statement-fine (sheetOf s) i (c .kind) (c .p) (c .q) (c .r) (and-right (inTable 14 (c .kind)) (wordsOk (sheetOf s) (statementUses (scriptOf s .procedureRow) c) i c) (every-at _ (statements-of s) statements-pass i (table-low _ i h) (table-high _ i h)))
+          statement-fine (sheetOf s) i (c .kind) (c .p) (c .q) (c .r) (statements-say (sheetOf s) i (statements-pass s e) h)
       go false h = rw h tt
 
   rows-fine : (i : ℕ) → RowFine (groveOf s .row i)
-  unfolding rows-ok sheetOf groveOf
+  unfolding sheetOf groveOf
   rows-fine i = go (inTable (rows-of s) i) refl
     where
       go : (b : Bool) → inTable (rows-of s) i ≡ b → RowFine (groveOf s .row i)
       go true h = let c = groveOf s .row i in let l = table-high (rows-of s) i h in
-          row-fine (sheetOf s) pool-limit i (c .kind) (c .p) (c .q) (c .r) (omega (arith, rows-limit)) (and-right (inTable 4 (c .kind)) (wordsOk (sheetOf s) (forestUses c) i c) (every-at _ (rows-of s) rows-pass i (table-low _ i h) l))
+          row-fine (sheetOf s) (few-bytes s e) i (c .kind) (c .p) (c .q) (c .r) (omega (arith, few-rows s e)) (and-right (inTable 4 (c .kind)) _ (rows-say (sheetOf s) i (rows-pass s e) h))
       go false h = rw h (omega arith, omega arith)
 
   pub calls-named : Named-procedures (scriptOf s)

@@ -1,26 +1,27 @@
 -- The types at the rows of a table as sides. Found: rows of any table beside a sheet that has no barren name; every place lives, for every content has a forest.
 -- Wanted: declared types and contents of a sheet without ties; no point has two places of one head. What a row's points admit is what is of its type (Theorems/Places).
-use Prim.Native.Nat.{ℕ, zero, suc, _-_, _≤_, _<_}
+use Prim.Native.Nat.{ℕ, _-_, _≤_, _<_}
 use mathlib.Core.Path.{_≡_, refl, fun-ext}
-use mathlib.Core.Bool.{Bool, true, false, _&&_, _||_, not, false≢true}
+use mathlib.Core.Bool.{Bool, true, false, _&&_, _||_, not}
 use mathlib.Core.List.{List}
 use mathlib.Core.Logic.{inl, inr, _↔_}
 use native.Mathlib.Omega.{arith}
 use native.Mathlib.Decide.{ℕ-discrete}
 use lib.Dec.{eqb, ltb}
-use borrow.Author.Tests.{eqb-true, eq-eqb, ne-eqb, ltb-true, lt-ltb}
+use borrow.Author.Tests.{eq-eqb, ne-eqb, ltb-true, lt-ltb}
 use Rattle.meaning.specs.Tests.{some, inTable}
-use Rattle.meaning.specs.Sheet.{Cells, Script, types-of, scriptOf, sheetOf}
-use Rattle.meaning.specs.Kinds.{TypeRow, typeForm}
+use Rattle.meaning.specs.Sheet.{Cells, Script, scriptOf}
+use Rattle.meaning.specs.Kinds.{typeForm}
 use Rattle.meaning.specs.Forest.{Tree, Forest, nil, cons}
-use Rattle.meaning.specs.Types.{Named, Head, Of, Fertile, tyForm, ty, tyAt, declared, namesIn}
-use Rattle.meaning.specs.Places.{Model, modelForm, model, modelAt, first, follows, same-head, acting, headAt, modelIn, Fits, Admits, rivals, is-declared, is-content, tied, Untied, NoneBarren}
-use Rattle.meaning.specs.Shape.{is-label as label-ok, is-part, absent, typeUses, wordOk, wordsOk, types-ok, names-ok, shapely}
-use Rattle.meaning.specs.Laws.Bools.{or-left, or-right, or-cases, and-left, and-right, and-both, either, not-both}
-use Rattle.meaning.specs.Laws.Tests.{in-table, table-low, table-high, every-at, some-at}
-use Rattle.meaning.specs.Laws.Barren.{Over, forest-over}
+use Rattle.meaning.specs.Types.{Named, Head, Of, Fertile, tyAt, declared, namesIn}
+use Rattle.meaning.specs.Places.{Model, model, modelAt, first, follows, same-head, acting, headAt, modelIn, Fits, Admits, rivals, is-declared, is-content, tied, Untied, NoneBarren}
+use Rattle.meaning.specs.Shape.{shapely}
+use Rattle.meaning.specs.Laws.Bools.{or-left, or-right, and-left, and-right, and-both, either, not-both}
+use Rattle.meaning.specs.Laws.Tests.{in-table, table-low, table-high, some-at}
+use Rattle.meaning.specs.Laws.Barren.{forest-over, over-rows}
+use Rattle.meaning.specs.Laws.Shaped.{kind-in, named, label-row, name-row}
 use Rattle.meaning.specs.Laws.Wired.{has}
-use Rattle.meaning.specs.Laws.Apart.{model-placed, model-below, Low, Lower, Labelled, Once, View, v-none, v-empty, v-text, v-bool, v-label, v-seq, v-choice, v-star, v-name, view, shaped-lower, shaped-labelled, shaped-once, tyAt-same}
+use Rattle.meaning.specs.Laws.Apart.{model-placed, model-below, Low, Lower, Labelled, Once, AtomKind, a-text, a-bool, a-label, a-name, atom-kind, shaped-lower, shaped-labelled, shaped-once, tyAt-same}
 use Rattle.meaning.specs.Theorems.Places.{namesOver, admits-of}
 use Rattle.meaning.specs.Laws.Models.{same-head-says}
 use Rattle.meaning.specs.Laws.Pairs.{Side, Suits, Admitted, Lives, Free, Comes, comes-wanted}
@@ -57,50 +58,6 @@ module _ (row : ℕ → Cells) (nameRow : ℕ → ℕ) where
     )
 
 -- ---- tables whose rows refer to lower rows
-
--- the row of an atom
-pub data AtomKind (c : Cells) : Type 0 where
-  a-text : c .kind ≡ 2 → AtomKind c
-  a-bool : c .kind ≡ 3 → AtomKind c
-  a-label : c .kind ≡ 4 → AtomKind c
-  a-name : c .kind ≡ 8 → AtomKind c
-
--- the places of the model at a row are atoms' rows
-pub atom-kind : (row : ℕ → Cells) (k r a : ℕ) → has (model (λ i. typeForm (row i)) k r) a ≡ true → AtomKind (row a)
-unfolding model modelForm has
-atom-kind row zero r a e = absurd (false≢true e)
-atom-kind row (suc k) r a e = go (view (row r)) e (λ j h. atom-kind row k j a h)
-  where
-    at : ℕ → Model
-    at = model (λ i. typeForm (row i)) k
-
-    go : {t : TypeRow} → View (row r) t → has (modelForm t r at) a ≡ true → ((j : ℕ) → has (at j) a ≡ true → AtomKind (row a)) → AtomKind (row a)
-    go v-none h ih = absurd (false≢true h)
-    go v-empty h ih = absurd (false≢true h)
-    go (v-text d) h ih = rw (← (eqb-true r a h)) (a-text d)
-    go (v-bool d) h ih = rw (← (eqb-true r a h)) (a-bool d)
-    go (v-label d) h ih = rw (← (eqb-true r a h)) (a-label d)
-    go (v-seq d) h ih = elim (or-cases (has (at (row r .p)) a) (has (at (row r .q)) a) h) [ inl g ↦ ih (row r .p) g | inr g ↦ ih (row r .q) g ]
-    go (v-choice d) h ih = elim (or-cases (has (at (row r .p)) a) (has (at (row r .q)) a) h) [ inl g ↦ ih (row r .p) g | inr g ↦ ih (row r .q) g ]
-    go (v-star d) h ih = ih (row r .p) h
-    go (v-name d) h ih = rw (← (eqb-true r a h)) (a-name d)
-
--- the names in the type at a row are named by rows of kind 8
-pub over-rows : (row : ℕ → Cells) (P : ℕ → Type 0) → ((i : ℕ) → row i .kind ≡ 8 → P (row i .p)) → (k r : ℕ) → Over P (ty (λ i. typeForm (row i)) k r)
-unfolding ty tyForm Over
-over-rows row P h zero r = tt
-over-rows row P h (suc k) r = go (view (row r)) (over-rows row P h k)
-  where
-    go : {t : TypeRow} → View (row r) t → ((j : ℕ) → Over P (ty (λ i. typeForm (row i)) k j)) → Over P (tyForm t (ty (λ i. typeForm (row i)) k))
-    go v-none ih = tt
-    go v-empty ih = tt
-    go (v-text e) ih = tt
-    go (v-bool e) ih = tt
-    go (v-label e) ih = ih (row r .q)
-    go (v-seq e) ih = (ih (row r .p), ih (row r .q))
-    go (v-choice e) ih = (ih (row r .p), ih (row r .q))
-    go (v-star e) ih = ih (row r .p)
-    go (v-name e) ih = h r e
 
 pub label-low : (row : ℕ → Cells) → Lower row → (top i : ℕ) → i ≤ top → row i .kind ≡ 4 → row i .q ≤ top
 unfolding Low
@@ -186,49 +143,16 @@ module _ (s : List ℕ) (shape : shapely s ≡ true) where
   abbrev S : Script
   S = scriptOf s
 
-  shaped-types : types-ok (sheetOf s) ≡ true
-  shaped-types = search (and-left, and-right) depth 14
-
-  shaped-names : names-ok (sheetOf s) ≡ true
-  shaped-names = search (and-left, and-right) depth 14
-
-  -- a row with a kind is a row of the table
-  pub kind-row : (i k : ℕ) → S .typeRow i .kind ≡ suc k → inTable (S .types) i ≡ true
-  unfolding scriptOf
-  kind-row i k e = elim (either (inTable (types-of s) i)) [
-    | inl h ↦ h
-    | inr h ↦ (let z : 0 ≡ suc k = rw h at e in absurd (omega arith))
-  ]
-
-  -- a row of the table has its words as they must be
-  row-words : (i : ℕ) → inTable (S .types) i ≡ true → wordsOk (sheetOf s) (typeUses (S .typeRow i)) i (S .typeRow i) ≡ true
-  unfolding types-ok sheetOf
-  row-words i h = and-right (inTable 8 (S .typeRow i .kind)) _ (every-at _ (S .types) shaped-types i (table-low (S .types) i h) (table-high (S .types) i h))
-
   -- the content of a label row is a row of the table, and a content
   label-content : (i : ℕ) → S .typeRow i .kind ≡ 4 → (inTable (S .types) (S .typeRow i .q) ≡ true) × (is-content S (S .typeRow i .q) ≡ true)
-  unfolding wordOk
   label-content i e =
-      let h = kind-row i 3 e in
+      let h = kind-in s i 3 e in
       let l = table-low (S .types) i h in
       let g = table-high (S .types) i h in
-      let w : label-ok (S .typeRow i .p) && is-part i (S .typeRow i .q) && absent (S .typeRow i .r) ≡ true = rw e at (row-words i h) in
-      let p : is-part i (S .typeRow i .q) ≡ true = search (and-left, and-right) in (
-        in-table (S .types) (S .typeRow i .q) (table-low (i - 1) (S .typeRow i .q) p) (omega (arith, table-high (i - 1) (S .typeRow i .q) p)),
+      let p = label-row s shape i e .1 in (
+        in-table (S .types) (S .typeRow i .q) (p .low) (omega (arith, p .lower)),
         some-at _ (S .types) i l g (and-both (eqb (S .typeRow i .kind) 4) (eqb (S .typeRow i .q) (S .typeRow i .q)) (rw e) (eq-eqb (S .typeRow i .q) (S .typeRow i .q) refl)),
       )
-
-  -- a row of kind 8 names a name
-  pub row-name : (i : ℕ) → S .typeRow i .kind ≡ 8 → inTable (S .names) (S .typeRow i .p) ≡ true
-  unfolding wordOk sheetOf
-  row-name i e =
-      let w : inTable (S .names) (S .typeRow i .p) && absent (S .typeRow i .q) && absent (S .typeRow i .r) ≡ true = rw e at (row-words i (kind-row i 7 e)) in
-      and-left _ (absent (S .typeRow i .q)) (and-left _ (absent (S .typeRow i .r)) w)
-
-  -- a name's row is a label row of the table
-  name-words : (x : ℕ) → inTable (S .names) x ≡ true → inTable (S .types) (S .nameRow x) && eqb (S .typeRow (S .nameRow x) .kind) 4 ≡ true
-  unfolding names-ok sheetOf
-  name-words x h = every-at _ (S .names) shaped-names x (table-low (S .names) x h) (table-high (S .names) x h)
 
   no-name : (x : ℕ) → inTable (S .names) x ≡ false → S .nameRow x ≡ 0
   unfolding scriptOf
@@ -236,12 +160,9 @@ module _ (s : List ℕ) (shape : shapely s ≡ true) where
 
   pub named-low : (x : ℕ) → S .nameRow x ≤ S .types
   named-low x = elim (either (inTable (S .names) x)) [
-    | inl h ↦ table-high (S .types) (S .nameRow x) (and-left (inTable (S .types) (S .nameRow x)) (eqb (S .typeRow (S .nameRow x) .kind) 4) (name-words x h))
+    | inl h ↦ table-high (S .types) (S .nameRow x) (named s shape x h .0)
     | inr h ↦ rw (no-name x h) (omega arith)
   ]
-
-  name-kind : (x : ℕ) → inTable (S .names) x ≡ true → S .typeRow (S .nameRow x) .kind ≡ 4
-  name-kind x h = eqb-true (S .typeRow (S .nameRow x) .kind) 4 (and-right (inTable (S .types) (S .nameRow x)) (eqb (S .typeRow (S .nameRow x) .kind) 4) (name-words x h))
 
   no-row : S .typeRow 0 .q ≡ 0
   unfolding scriptOf
@@ -249,7 +170,7 @@ module _ (s : List ℕ) (shape : shapely s ≡ true) where
 
   pub name-content : (x : ℕ) → S .typeRow (S .nameRow x) .q ≤ S .types
   name-content x = elim (either (inTable (S .names) x)) [
-    | inl h ↦ table-high (S .types) (S .typeRow (S .nameRow x) .q) (label-content (S .nameRow x) (name-kind x h) .0)
+    | inl h ↦ table-high (S .types) (S .typeRow (S .nameRow x) .q) (label-content (S .nameRow x) (named s shape x h .1) .0)
     | inr h ↦ rw (no-name x h, no-row) (omega arith)
   ]
 
@@ -267,7 +188,7 @@ module _ (s : List ℕ) (shape : shapely s ≡ true) where
 
   -- where nothing is tied, no two places of one head may stand at one point
   module _ (untied : Untied S) where
-    one-place : (r a b : ℕ) → Wanted S r → headAt (S .typeRow) (S .nameRow) a ≡ headAt (S .typeRow) (S .nameRow) b → meet (modelIn (S .typeRow) (S .nameRow) r) (S .types) a b ≡ true → a ≡ b
+    pub one-place : (r a b : ℕ) → Wanted S r → headAt (S .typeRow) (S .nameRow) a ≡ headAt (S .typeRow) (S .nameRow) b → meet (modelIn (S .typeRow) (S .nameRow) r) (S .types) a b ≡ true → a ≡ b
     unfolding tied
     one-place r a b h e p = elim (ℕ-discrete a b) [
       | yes q ↦ q
@@ -312,7 +233,7 @@ own-table s e = record {
   once = shaped-once s e;
   labelled = shaped-labelled s e;
   named = named-low s e;
-  known = row-name s e;
+  known = name-row s e;
   same = λ x. refl;
 }
 
@@ -323,7 +244,7 @@ unfolding namesIn
 extended s e row top l agree lower once known = record {
   lower = lower;
   once = once;
-  labelled = λ i k. rw (agree (scriptOf s .nameRow (row i .p)) (named-low s e (row i .p))) (name-kind s e (row i .p) (known i k));
+  labelled = λ i k. rw (agree (scriptOf s .nameRow (row i .p)) (named-low s e (row i .p))) (named s e (row i .p) (known i k) .1);
   named = λ x. omega (arith, named-low s e x);
   known = known;
   same = λ x. rw (agree (scriptOf s .nameRow x) (named-low s e x)) (same-content x);

@@ -10,11 +10,11 @@ use Rattle.meaning.specs.Places.{modelAt, Set, start, acting, headAt, mo
 use Rattle.meaning.specs.Shape.{shapely}
 use Rattle.meaning.specs.Laws.Tests.{table-high}
 use Rattle.meaning.specs.Laws.Wired.{has, Wired, ends, wired-next}
-use Rattle.meaning.specs.Laws.Apart.{Lower, Labelled}
+use Rattle.meaning.specs.Laws.Apart.{Lower, Labelled, atom-kind}
 use Rattle.meaning.specs.Laws.Pairs.{Alike}
 use Rattle.meaning.specs.Laws.Points.{Point, Place, at-start, tableSide, Shows, table-alike}
 use Rattle.meaning.specs.Theorems.Within.Sides.{Found, Sought, found-by, sought-by}
-use Rattle.meaning.specs.Theorems.Within.Rows.{points, startAt, rowTypes, atom-kind, label-low, acting-kind, each-place, Wanted, Beside, own-table, found-row, sought-row}
+use Rattle.meaning.specs.Theorems.Within.Rows.{points, startAt, rowTypes, label-low, acting-kind, each-place, Wanted, Beside, own-table, found-row, sought-row}
 
 -- the sets of the type at row r: where it begins, inside each label and behind each place
 pub record Kept (row : ℕ → Cells) (nameRow : ℕ → ℕ) (r : ℕ) (from : Set) (inner nx : ℕ → Set) : Type 0 where

@@ -9,18 +9,17 @@ use lib.Dec.{eqb, leb, ltb}
 use borrow.Author.Tests.{eqb-true, ltb-true, lt-ltb, le-leb, lt-leb}
 use Rattle.meaning.specs.Sheet.{scriptOf}
 use Rattle.meaning.specs.Forest.{Text, Tree, Forest, nil, cons, only}
-use Rattle.meaning.specs.Types.{Ty, Named, Head, Atom, atomOf, Of, of-empty, of-text, of-bool, of-label, of-seq, of-left, of-right, of-none, of-more, of-name, Fertile, tyAt, declared, namesIn}
+use Rattle.meaning.specs.Types.{Ty, Named, Head, Atom, atomOf, Of, of-empty, of-text, of-bool, of-label, of-seq, of-left, of-right, of-none, of-more, of-name, Fertile, namesIn}
 use Rattle.meaning.specs.Places.{Model, nullable, first, last, follows, Set, start, next, same-head, NoneBarren}
 use Rattle.meaning.specs.Shape.{shapely}
 use Rattle.meaning.specs.Figures.{Atomic, is-text, is-bool, is-label, is-name}
-use Rattle.meaning.specs.Laws.Bools.{or-cases, and-left, and-right, and-both}
-use Rattle.meaning.specs.Laws.Barren.{Over, over-map, Name, forest-over}
-use Rattle.meaning.specs.Laws.Wired.{or-false, has, Wired, ends, In, in-empty, in-atom, in-seq, in-left, in-right, in-none, in-more, Lang, places}
+use Rattle.meaning.specs.Laws.Bools.{or-cases, or-false, and-left, and-right, and-both}
+use Rattle.meaning.specs.Laws.Barren.{Over, over-map, Name, forest-over, contents-over}
+use Rattle.meaning.specs.Laws.Wired.{has, Wired, ends, In, in-empty, in-atom, in-seq, in-left, in-right, in-none, in-more, Lang, places}
 use Rattle.meaning.specs.Laws.Apart.{Apart, next-wired}
 use Rattle.meaning.specs.Laws.Pairs.{Side, Suits, Admitted, Lives, Comes, comes-wanted}
 use Rattle.meaning.specs.Laws.Points.{heads-differ, on-has, Family, Point, begin, pointSide, Sort, sort-text, sort-bool, sort-label, Place, Reached, at-start, reached-asked, reached-on, reached-after, reached-into, comes-lives, tableSide, Shows, table-alike}
 use Rattle.meaning.specs.Theorems.Within.Sides.{Found, Sought, sought-by}
-use Rattle.meaning.specs.Theorems.Within.Rows.{over-rows, row-name}
 
 unfoldable pub atomsIn : Ty → ℕ
 atomsIn Ty.empty = 0
@@ -380,16 +379,6 @@ module _ (names : ℕ → Named) where
       (plainFrom p) (typeStart names τ) (at-start τ just, plain-begins p) (sought-plain τ p)
 
 -- ---- any found type over the names of a sheet that passes 2 to 4
-
--- the type at a row names names of the sheet only
-pub declared-over : (s : List ℕ) → shapely s ≡ true → (r : ℕ) → Over (Name (scriptOf s .names)) (declared (scriptOf s) r)
-unfolding tyAt
-declared-over s e r = over-rows (scriptOf s .typeRow) (Name (scriptOf s .names)) (row-name s e) r r
-
--- and so does the content of a name: what the laws of barren names ask
-pub contents-over : (s : List ℕ) → shapely s ≡ true → (x : ℕ) → Name (scriptOf s .names) x → Over (Name (scriptOf s .names)) (namesIn (scriptOf s) x .content)
-unfolding namesIn
-contents-over s e x h = declared-over s e (scriptOf s .typeRow (scriptOf s .nameRow x) .q)
 
 pub found-over : (s : List ℕ) → shapely s ≡ true → NoneBarren (scriptOf s) → (σ : Ty) → Over (Name (scriptOf s .names)) σ
     → Found (namesIn (scriptOf s)) (typeSide (namesIn (scriptOf s))) (typeStart (namesIn (scriptOf s)) σ) σ
