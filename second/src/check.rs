@@ -6,6 +6,7 @@ use crate::inclusion;
 use crate::places;
 use crate::purse::Purse;
 use crate::run::matches;
+use crate::scope::Scope;
 use crate::tables::{last_row, Query, Sheet, Statement, Type};
 use crate::types::{Head, Types};
 use std::collections::HashSet;
@@ -33,18 +34,8 @@ pub fn check(sheet: &Sheet) -> Checked {
 /// written; B is not asked about.
 pub fn output_type(sheet: &Sheet) -> Result<(Types, u16), Refusal> {
     let mut walk = Walk::new(sheet);
-    let row = walk.statement(sheet.main, sheet.a, &Scope::default(), 1)?;
+    let row = walk.statement(sheet.main, sheet.a, &Scope::none(), 1)?;
     Ok((walk.types, row))
-}
-
-/// The types of the variables in scope.
-#[derive(Clone, Default)]
-struct Scope(Vec<u16>);
-
-impl Scope {
-    fn with(&self, row: u16) -> Scope {
-        Scope(self.0.iter().copied().chain([row]).collect())
-    }
 }
 
 struct Walk<'a> {
@@ -76,7 +67,7 @@ impl<'a> Walk<'a> {
     fn all(&mut self) -> Result<(), Refusal> {
         for number in 1..=last_row(&self.sheet.procedures) {
             let procedure = self.sheet.procedure(number);
-            let parameters = Scope(procedure.parameter_types().collect());
+            let parameters = Scope::of(procedure.parameter_types());
             self.body(
                 procedure.body,
                 procedure.input,
@@ -85,7 +76,7 @@ impl<'a> Walk<'a> {
             )?;
         }
         let sheet = self.sheet;
-        self.body(sheet.main, sheet.a, sheet.b, &Scope::default())
+        self.body(sheet.main, sheet.a, sheet.b, &Scope::none())
     }
 
     /// "Each starts at depth 1"; "a body's or the main output in the declared output".
@@ -94,7 +85,7 @@ impl<'a> Walk<'a> {
         row: u16,
         input: u16,
         output: u16,
-        parameters: &Scope,
+        parameters: &Scope<u16>,
     ) -> Result<(), Refusal> {
         let found = self.statement(row, input, parameters, 1)?;
         let asker = Asker::Declaration;
@@ -102,7 +93,7 @@ impl<'a> Walk<'a> {
     }
 
     /// Figure 13.
-    fn query(&mut self, row: u16, scope: &Scope, depth: u16) -> Result<u16, Refusal> {
+    fn query(&mut self, row: u16, scope: &Scope<u16>, depth: u16) -> Result<u16, Refusal> {
         self.purse.start(depth)?;
         let below = depth + 1;
         let asker = Asker::Query(row);
@@ -120,7 +111,7 @@ impl<'a> Walk<'a> {
             }
             Query::Text { .. } => self.write(Type::Text),
             Query::True | Query::False => self.write(Type::Bool),
-            Query::Variable(variable) => Ok(scope.0[variable]),
+            Query::Variable(variable) => Ok(*scope.value(variable)),
             Query::Let { value, body } => {
                 let value = self.query(value, scope, below)?;
                 self.query(body, &scope.with(value), below)
@@ -140,7 +131,9 @@ impl<'a> Walk<'a> {
                 self.write(Type::Bool)
             }
             // "Query kind 11 needs a variable whose atom is labelled."
-            Query::Children { variable } => self.types.content(scope.0[variable]).ok_or(mismatch),
+            Query::Children { variable } => {
+                self.types.content(*scope.value(variable)).ok_or(mismatch)
+            }
             Query::Pick { from, label } => {
                 let from = self.query(from, scope, below)?;
                 self.each_atom(from, &mut |walk, atom| walk.pick(atom, label))
@@ -159,7 +152,7 @@ impl<'a> Walk<'a> {
         &mut self,
         row: u16,
         focus: u16,
-        scope: &Scope,
+        scope: &Scope<u16>,
         depth: u16,
     ) -> Result<u16, Refusal> {
         self.purse.start(depth)?;
@@ -231,7 +224,7 @@ impl<'a> Walk<'a> {
         callee: u16,
         arguments: [u16; 2],
         focus: u16,
-        scope: &Scope,
+        scope: &Scope<u16>,
         below: u16,
     ) -> Result<u16, Refusal> {
         let procedure = self.sheet.procedure(callee);

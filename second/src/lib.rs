@@ -4,7 +4,7 @@
 //! |---|---|
 //! | Tables | `tables` (rows), `shape` (the rules), `forests` (forests as values and rows) |
 //! | Ties | `types` (atoms, heads, Barren), `places` (Tie, fit) |
-//! | How a run goes | `run`, with `purse` for units and depth |
+//! | How a run goes | `run`, with `purse` for units and depth, `scope` for variables |
 //! | How a check goes | `check`, with `inclusion` |
 //! | Refusals by number | `answers` |
 //! | Bundles | `bundles` |
@@ -25,6 +25,7 @@ pub mod notation;
 pub mod places;
 pub mod purse;
 pub mod run;
+pub mod scope;
 pub mod scripts;
 pub mod shape;
 pub mod tables;

@@ -4,6 +4,7 @@
 use crate::answers::{Asker, Refusal};
 use crate::forests::{Forest, Tree};
 use crate::purse::Purse;
+use crate::scope::Scope;
 use crate::tables::{Query, Sheet, Statement, Test};
 use crate::types::Head;
 
@@ -17,24 +18,13 @@ pub struct Ran {
 pub fn run(sheet: &Sheet) -> Ran {
     let focus = Forest::of_rows(&sheet.forest, sheet.root);
     Walk::go(sheet, |walk| {
-        walk.statement(sheet.main, focus, &Scope::default(), 1)
+        walk.statement(sheet.main, focus, &Scope::none(), 1)
     })
 }
 
 /// Runs a query by itself, with no variables in scope.
 pub fn run_query(sheet: &Sheet, row: u16) -> Ran {
-    Walk::go(sheet, |walk| walk.query(row, &Scope::default(), 1))
-}
-
-/// "The scope is sixteen places, each a kind and a value": Shape has judged the kinds, and a tree
-/// variable's value is a forest of one tree.
-#[derive(Clone, Default)]
-struct Scope(Vec<Forest>);
-
-impl Scope {
-    fn with(&self, value: Forest) -> Scope {
-        Scope(self.0.iter().cloned().chain([value]).collect())
-    }
+    Walk::go(sheet, |walk| walk.query(row, &Scope::none(), 1))
 }
 
 struct Walk<'a> {
@@ -57,7 +47,7 @@ impl<'a> Walk<'a> {
     }
 
     /// Figure 12.
-    fn query(&mut self, row: u16, scope: &Scope, depth: u16) -> Result<Forest, Refusal> {
+    fn query(&mut self, row: u16, scope: &Scope<Forest>, depth: u16) -> Result<Forest, Refusal> {
         self.purse.start(depth)?;
         let below = depth + 1;
         match self.sheet.query(row) {
@@ -74,7 +64,7 @@ impl<'a> Walk<'a> {
             Query::Text { offset, length } => self.made(Tree::Text { offset, length }),
             Query::True => self.made(Tree::Bool(true)),
             Query::False => self.made(Tree::Bool(false)),
-            Query::Variable(variable) => Ok(scope.0[variable].clone()),
+            Query::Variable(variable) => Ok(scope.value(variable).clone()),
             Query::Let { value, body } => {
                 let value = self.query(value, scope, below)?;
                 self.query(body, &scope.with(value), below)
@@ -93,7 +83,7 @@ impl<'a> Walk<'a> {
             }
             Query::Children { variable } => {
                 // "Children of a text or bool variable is `()`."
-                let labelled = scope.0[variable].one_labelled();
+                let labelled = scope.value(variable).one_labelled();
                 Ok(labelled.map_or(Forest::empty(), |(_, content)| content.clone()))
             }
             Query::Pick { from, label } => {
@@ -114,7 +104,7 @@ impl<'a> Walk<'a> {
         &mut self,
         row: u16,
         focus: Forest,
-        scope: &Scope,
+        scope: &Scope<Forest>,
         depth: u16,
     ) -> Result<Forest, Refusal> {
         self.purse.start(depth)?;
@@ -178,7 +168,7 @@ impl<'a> Walk<'a> {
                 walk.statement(body, tree, scope, below)
             }),
             Statement::Call { callee, arguments } => {
-                let mut inner = Scope::default();
+                let mut inner = Scope::none();
                 for argument in arguments.into_iter().filter(|&row| row != 0) {
                     inner = inner.with(self.query(argument, scope, below)?);
                 }

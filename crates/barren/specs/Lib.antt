@@ -1,4 +1,3 @@
--- Flags, the rows that a layout counts, and the marking of names that have a forest.
+-- Flags, and the marking of names that have a forest.
 pub mod Flags
-pub mod Rows
 pub mod Marks

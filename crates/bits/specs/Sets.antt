@@ -11,6 +11,11 @@ use Rattle.bits.specs.Digits.{bit}
 unfoldable pub inSet : List ℕ → ℕ → ℕ → Bool
 inSet t k i = eqb (bit (getD t (9 * k + i / 64) 0) (i % 64)) 1
 
+-- no set of a table of 513 has a member
+pub record Clear (t : List ℕ) : Type 0 where
+  pub size : length t ≡ 4617
+  pub none : (k b : ℕ) → b < 576 → inSet t k b ≡ false
+
 -- place i is in set k of t and in set j of u
 abbrev pub inBoth : List ℕ → ℕ → List ℕ → ℕ → ℕ → Bool
 inBoth t k u j i = inSet t k i && inSet u j i

@@ -1,27 +1,17 @@
 -- What the calls of this crate promise: `Opens` for a bundle that is opened, `replied` for the reader's and the writer's reply.
 use mathlib.Core.Path.{_≡_}
-use mathlib.Core.Bool.{Bool, true, false}
-use mathlib.Core.List.{List, _++_}
-use Prim.Native.Nat.{ℕ, _+_, _≤_}
-use lib.Dec.{eqb}
-use lib.ListN.{length, take, drop}
-use Rattle.meaning.specs.Words.{wordAt}
+use mathlib.Core.Bool.{true, false}
+use mathlib.Core.List.{List}
+use Prim.Native.Nat.{ℕ, _≤_}
+use lib.ListN.{length, take}
 use Rattle.meaning.specs.Sheet.{need}
-use Rattle.meaning.specs.Bundle.{checkWord, filled, blockAt, payloadOf, sheetIn, framed}
+use Rattle.meaning.specs.Bundle.{payloadOf, sheetIn, framed}
 use Rattle.meaning.specs.Reply.{Answer, done, refused, block, shape, room}
 use Rattle.meaning.specs.Reply as reply
 use Rattle.bundle.specs.declared.Opened.{Opened}
 use Rattle.bundle.specs.declared.Opened.the-variants.{Sheet, Refused}
 use Rattle.bundle.specs.declared.Copied.{Copied}
 use Rattle.bundle.specs.declared.Copied.the-variants.{Done, Block, Shape, Room}
-
--- block k, from 1, has its number
-abbrev pub number-ok : List ℕ → ℕ → Bool
-number-ok b k = eqb (wordAt (blockAt b k) 0) k
-
--- block k, from 1, has its check
-abbrev pub check-ok : List ℕ → ℕ → Bool
-check-ok b k = eqb (wordAt (blockAt b k) 255) (checkWord (blockAt b k))
 
 -- refused exactly if one of the five tests fails; else the sheet stands at the front of what was lent, as long as its counts ask
 abbrev pub OpensBy : List ℕ → List ℕ → Opened → Type 0
@@ -40,7 +30,3 @@ copiedOf Room = refused room
 -- the reply that an answer is, with the lent bytes after it
 abbrev pub replied : Copied → List ℕ → reply.Copied
 replied r after = record { answer = copiedOf r; bytes = after }
-
--- the bytes d with the first j bytes of p, 0 past its end, from place at on
-abbrev pub stored : List ℕ → ℕ → List ℕ → ℕ → List ℕ
-stored d at p j = take at d ++ filled j p ++ drop (at + j) d

@@ -30,7 +30,9 @@ use Rattle.ask.specs.Ask.{lay-of, held}
 use Rattle.edit.specs.Edit.{Edits, fits, went}
 use Rattle.out.specs.Sizes.{Below}
 use Rattle.desk.specs.Said.{Says}
-use Rattle.desk.specs.Load.{Loaded, few-rows, few-units, root-inside, grove-low}
+use Rattle.meaning.specs.Laws.Shaped.{few-rows, few-units}
+use Rattle.meaning.specs.Laws.Trees.{root-row, grove-low}
+use Rattle.desk.specs.Load.{Loaded}
 use Rattle.meaning.specs.Laws.Scoped.{main-in-scope}
 use Rattle.desk.specs.declared.Ran.the-variants as ran
 
@@ -102,7 +104,7 @@ module _ {s : List ℕ} {l : Layout} (e : shapely s ≡ true) (L : Laid s l) whe
     ready room = record {
       roomy = record { low = loaded-low; room = room; small = omega (arith, few-asked) };
       scoped = scoped-fresh (l .rows) fresh;
-      focus = rw (root-is, rows-is) (root-inside s e);
+      focus = rw (root-is, rows-is) (root-row s e);
     }
 
     -- main has no variables, and its rows find theirs
@@ -114,7 +116,7 @@ module _ {s : List ℕ} {l : Layout} (e : shapely s ≡ true) (L : Laid s l) whe
     main-walk : went s old g 200 (l .main) (l .root) ≡ run-walk (sheetOf s)
     unfolding run-walk sheetOf
     main-walk =
-        let inside = root-inside s e in
+        let inside = root-row s e in
         let same : forestAt (groveOf s .byte) (groveOf s .row) (groveOf s .root) ≡ forestAt (groveOf s .byte) (lentRow old) (groveOf s .root) =
         forestAt-same (groveOf s .byte) (groveOf s .row) (lentRow old) (groveOf s .root) (λ i p q. grove-low s e i p (omega arith)) (λ i p q. loaded i p (omega arith)) in
         rw (env-fresh (groveOf s .byte) old fresh, main-is, root-is, ← same)

@@ -1,20 +1,14 @@
--- The forest's rows, copied to the front of the working rows, read there as they do in the sheet; rows of a sheet that passes Shape refer to lower rows.
-use Prim.Native.Nat.{ℕ, zero, suc, _+_, _*_, _-_, _≤_, _<_}
+-- The forest's rows, copied to the front of the working rows, read there as they do in the sheet.
+use Prim.Native.Nat.{ℕ, _+_, _*_, _-_, _≤_, _<_}
 use mathlib.Core.Path.{_≡_, sym, ap, _∙_}
-use mathlib.Core.Bool.{true, false, false≢true}
 use mathlib.Core.List.{List, _++_}
 use native.Mathlib.Omega.{arith}
-use borrow.Author.Tests.{leb-true, ltb-true}
 use lib.ListN.{length, getD, take, drop, length-drop, List·getD-append}
 use lib.Seq.{length-take-le, getD-take, getD-drop}
-use Rattle.meaning.specs.Limits.{most-forest-rows, most-fuel}
-use Rattle.meaning.specs.Tests.{inTable}
 use Rattle.meaning.specs.Words.{wordAt}
-use Rattle.meaning.specs.Sheet.{Sheet, rows-of, rows-at, need, groveOf, sheetOf}
-use Rattle.meaning.specs.Shape.{wordOk, wordsOk, forestUses, rows-ok, roots-ok, limits-ok, shaped, whole, shapely}
-use Rattle.meaning.specs.Laws.Bools.{and-left, and-right}
-use Rattle.meaning.specs.Laws.Tests.{in-table, every-at, table-high}
-use Rattle.meaning.specs.Laws.Rows.{LowRow, LowRows, SameRows}
+use Rattle.meaning.specs.Sheet.{rows-of, rows-at, groveOf}
+use Rattle.meaning.specs.Laws.Tests.{in-table}
+use Rattle.meaning.specs.Laws.Rows.{SameRows}
 use Rattle.meaning.specs.Theorems.ReadBack.{lentRow}
 
 -- the rows of the sheet's forest stand in lent rows
@@ -50,47 +44,3 @@ load-rows s old new from to fits copied ef et r p q =
     let two : rows-at s + i + 2 ≡ rows-at s + (i + 2) = omega arith in
     let three : rows-at s + i + 3 ≡ rows-at s + (i + 3) = omega arith in
     rw (in-table (rows-of s) r p q, one, two, three, word i ef (omega arith), word (i + 1) ef (omega arith), word (i + 2) ef (omega arith), word (i + 3) ef (omega arith))
-
--- ---- what Shape says of the forest's rows
-
-module _ (s : Sheet) where
-  row-low : (i k p q r : ℕ) → inTable 4 k ≡ true → wordsOk s (forestUses (record { kind = k; p = p; q = q; r = r })) i (record { kind = k; p = p; q = q; r = r }) ≡ true → LowRow (record { kind = k; p = p; q = q; r = r }) i
-  unfolding wordOk
-  row-low i zero p q r t e = absurd (false≢true t)
-  row-low i (suc zero) p q r t e = record { child = λ h. absurd (false≢true (sym h)); next = ltb-true r i (search (and-left, and-right)) }
-  row-low i (suc (suc zero)) p q r t e = record { child = λ h. absurd (false≢true (sym h)); next = ltb-true r i (search (and-left, and-right)) }
-  row-low i (suc (suc (suc zero))) p q r t e = record { child = λ h. absurd (false≢true (sym h)); next = ltb-true r i (search (and-left, and-right)) }
-  row-low i (suc (suc (suc (suc zero)))) p q r t e = record { child = λ h. ltb-true q i (search (and-left, and-right)); next = ltb-true r i (search (and-left, and-right)) }
-  row-low i (suc (suc (suc (suc (suc k))))) p q r t e = absurd (omega (arith, table-high 4 (suc (suc (suc (suc (suc k))))) t))
-
-module _ (s : List ℕ) (e : shapely s ≡ true) where
-  pub need-lent : need s ≤ length s
-  need-lent = leb-true (need s) (length s) (and-left (whole s) (shaped (sheetOf s)) e)
-
-  limits-pass : limits-ok (sheetOf s) ≡ true
-  limits-pass = search (and-left, and-right) depth 14
-
-  pub few-rows : groveOf s .rows ≤ 2048
-  unfolding limits-ok sheetOf
-  few-rows = let l = limits-pass in leb-true (groveOf s .rows) most-forest-rows (search (and-left, and-right) depth 9)
-
-  pub few-units : sheetOf s .runFuel ≤ 4096
-  unfolding limits-ok
-  few-units = let l = limits-pass in leb-true (sheetOf s .runFuel) most-fuel (search (and-left, and-right) depth 9)
-
-  roots-pass : roots-ok (sheetOf s) ≡ true
-  roots-pass = search (and-left, and-right) depth 14
-
-  pub root-inside : groveOf s .root ≤ groveOf s .rows
-  unfolding roots-ok sheetOf
-  root-inside = let l = roots-pass in leb-true (groveOf s .root) (groveOf s .rows) (search (and-left, and-right) depth 9)
-
-  rows-pass : rows-ok (sheetOf s) ≡ true
-  rows-pass = search (and-left, and-right) depth 14
-
-  pub grove-low : LowRows (groveOf s .row) (groveOf s .rows)
-  unfolding rows-ok sheetOf
-  grove-low i p q =
-      let c = groveOf s .row i in
-      let ok = every-at _ (groveOf s .rows) rows-pass i p q in
-      row-low (sheetOf s) i (c .kind) (c .p) (c .q) (c .r) (and-left (inTable 4 (c .kind)) (wordsOk (sheetOf s) (forestUses c) i c) ok) (and-right (inTable 4 (c .kind)) (wordsOk (sheetOf s) (forestUses c) i c) ok)

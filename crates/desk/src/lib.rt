@@ -65,14 +65,6 @@ fn walk_main(s: &[u8], l: Layout, work: &mut [u8]) -> Answer
     edit::statement(s, l, work, Scope::new(), l.rows, l.main, l.root, 200, purse)
 }
 
-// The units that a purse no longer holds.
-fn spent(fuel: usize, purse: Purse) -> usize
-    requires { ⌜ purse .left ≤ fuel ⌝ }
-    ensures { λ r. ⌜ r + purse .left ≡ fuel ⌝ }
-{
-    fuel - purse.left
-}
-
 // How an end that is no forest is called.
 fn stopped(why: Stop, fuel: usize) -> Ran
     requires { ⌜ leftOf why ≤ fuel ⌝ }
@@ -80,11 +72,11 @@ fn stopped(why: Stop, fuel: usize) -> Ran
 {
     match why {
         Stop::Fuel => Ran::Fuel(fuel),
-        Stop::Depth(purse) => Ran::Depth(spent(fuel, purse)),
+        Stop::Depth(purse) => Ran::Depth(purse.spent(fuel)),
         Stop::Stuck(row, flag, purse) => Ran::Stuck {
             row,
             flag,
-            units: spent(fuel, purse),
+            units: purse.spent(fuel),
         },
     }
 }
@@ -115,7 +107,7 @@ fn walked(s: &[u8], l: Layout, work: &mut [u8], result: &mut [u8]) -> Ran
     match walk_main(s, l, work) {
         Answer::Not(why) => stopped(why, l.run_fuel),
         Answer::Done { root, used, purse } => {
-            let units = spent(l.run_fuel, purse);
+            let units = purse.spent(l.run_fuel);
             finish(work, used, root, units, result)
         }
     }

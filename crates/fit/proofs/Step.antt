@@ -23,10 +23,11 @@ use Rattle.meaning.specs.Laws.Shaped.{few-types}
 use Rattle.bits.specs.Sets.{inSet}
 use Rattle.sheet.specs.declared.Layout.{Layout}
 use Rattle.places.specs.Tables.{modelOf}
-use Rattle.ties.specs.Heads.{actingAt, headNumber, Acts, acts-text, acts-bool, acts-label}
+use Rattle.heads.specs.Heads.{actingAt, headNumber, Acts, acts-text, acts-bool, acts-label}
 use Rattle.fit.specs.Fitting.{treeNumber, Looked, point, treesAt, GoesOn, Inside, Ready, Walks, Walking}
 use Rattle.fit.proofs.Held.{single}
-use Rattle.fit.proofs.Shaped.{Sort, a-text, a-bool, a-node, tree-row, low-rows, acts}
+use Rattle.meaning.specs.Laws.Trees.{Sort, a-text, a-bool, a-node, tree-row, low-rows}
+use Rattle.fit.proofs.Shaped.{acts}
 use Rattle.fit.proofs.Heads.{treeHead, numberOf, Small, small-number, one-head, place-number, place-small, tree-number, tree-small, fits-head, fits-inside, head-fits}
 
 -- ---- what stands at a point is a place

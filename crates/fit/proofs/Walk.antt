@@ -18,7 +18,7 @@ use Rattle.sheet.specs.Laid.{cellsOf}
 use Rattle.sheet.specs.declared.Layout.{Layout}
 use Rattle.sheet.specs.declared.Row.{Row}
 use Rattle.places.specs.Tables.{modelOf}
-use Rattle.ties.specs.Heads.{actingAt}
+use Rattle.heads.specs.Heads.{actingAt}
 use Rattle.fit.specs.Fitting.{treeNumber, Looked, point, GoesOn, Inside, Ready, Walks, Walking}
 use Rattle.fit.proofs.Step as step
 

@@ -24,12 +24,13 @@ use Rattle.meaning.specs.Laws.Shaped.{kind-in, label-row, few-types}
 use Rattle.sheet.specs.Laid.{Laid, outside-low, outside-high}
 use Rattle.sheet.specs.declared.Layout.{Layout}
 use Rattle.places.specs.Sheets.{laid-tables, laid-free, laid-wires}
-use Rattle.places.specs.Users.{told-free}
-use Rattle.places.specs.Tables.{modelOf, setOf, isRoot, Tables, Wires, Rooted, Free}
-use Rattle.ties.specs.Classes.{Classes}
-use Rattle.ties.specs.Heads.{actingAt}
+use Rattle.ties.specs.Users.{told-free}
+use Rattle.places.specs.Tables.{modelOf, setOf, Tables, Wires, Free}
+use Rattle.roots.specs.Roots.{isRoot, Rooted}
+use Rattle.heads.specs.Classes.{Classes}
+use Rattle.heads.specs.Heads.{actingAt}
 use Rattle.fit.specs.Fitting.{Nexts, Inside, Ready, Walks}
-use Rattle.fit.proofs.Shaped.{root-row}
+use Rattle.meaning.specs.Laws.Trees.{root-row}
 
 root-is : {s : List ℕ} {l : Layout} → Laid s l → l .root ≡ groveOf s .root
 unfolding groveOf

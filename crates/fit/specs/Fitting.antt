@@ -12,8 +12,8 @@ use Rattle.meaning.specs.Places.{Model, Set, start, next, Admits, Untied}
 use Rattle.meaning.specs.Laws.Wired.{has}
 use Rattle.bits.specs.Sets.{inSet, inBoth}
 use Rattle.places.specs.Tables.{modelOf, Tables}
-use Rattle.ties.specs.Heads.{actingAt}
-use Rattle.ties.specs.Classes.{Classes}
+use Rattle.heads.specs.Heads.{actingAt}
+use Rattle.heads.specs.Classes.{Classes}
 use Rattle.sheet.specs.Laid.{Laid}
 use Rattle.sheet.specs.declared.Layout.{Layout}
 

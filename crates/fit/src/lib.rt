@@ -103,7 +103,7 @@ fn trees(
             return false;
         }
         if c.kind == 4 {
-            let q = ties::acting(s, l, b).q;
+            let q = heads::acting(s, l, b).q;
             if !trees(s, l, c.q, q, null, first, behind, behind, class, same) {
                 return false;
             }
@@ -132,7 +132,7 @@ fn of_type(s: &[u8], l: Layout, told: usize) -> bool
     let mut same = [0u64; 4617];
     top[told] = 1;
     places::firsts(s, l.types_at, l.types, &mut null, &mut first);
-    places::roots(s, l, &mut root);
+    roots::roots(s, l, &mut root);
     places::behinds(
         s,
         l.types_at,
@@ -144,7 +144,7 @@ fn of_type(s: &[u8], l: Layout, told: usize) -> bool
         &mut behind,
     );
     places::behinds(s, l.types_at, l.types, told, &top, &null, &first, &mut next);
-    ties::classes(s, l, &mut class, &mut same);
+    heads::classes(s, l, &mut class, &mut same);
     trees(
         s,
         l,

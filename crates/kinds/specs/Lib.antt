@@ -1,3 +1,2 @@
--- What the code's enums stand for, and the loop over a table's rows.
+-- What the code's enums stand for.
 pub mod Told
-pub mod Turns

@@ -1,6 +1,7 @@
 -- Laws of the definitions: what the theorems and the code's proofs cite.
 pub mod Bools
 pub mod Tests
+pub mod Turns
 pub mod Forest
 pub mod Walk
 pub mod Barren
@@ -10,6 +11,7 @@ pub mod Models
 pub mod Words
 pub mod Rows
 pub mod Shaped
+pub mod Trees
 pub mod Wired
 pub mod Sure
 pub mod Apart

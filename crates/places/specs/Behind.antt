@@ -12,19 +12,16 @@ use Rattle.meaning.specs.Tests.{inTable}
 use Rattle.meaning.specs.Sheet.{Cells}
 use Rattle.meaning.specs.Kinds.{TypeRow}
 use Rattle.meaning.specs.Places.{Set, modelForm, nullable, first}
-use Rattle.meaning.specs.Laws.Bools.{or-false, and-false, either, not-both}
+use Rattle.meaning.specs.Laws.Bools.{or-false, or-or, and-false, either, not-both}
 use Rattle.meaning.specs.Laws.Tests.{in-table, table-high}
 use Rattle.meaning.specs.Laws.Wired.{Wired, ends, starting, turning}
 use Rattle.meaning.specs.Laws.Apart.{Side, Distinct, View, v-none, v-empty, v-text, v-bool, v-label, v-seq, v-choice, v-star, v-name, view}
 use Rattle.bits.specs.Sets.{inSet, Added, United}
 use Rattle.barren.specs.Flags.{flag}
 use Rattle.meaning.specs.Laws.Shaped.{Part}
-use Rattle.places.specs.Tables.{rowForm, rowModel, Rows, setOf, Clear, Tables, Down, Passed, Ready, Fell, Ended, Falling, Free, Wires}
+use Rattle.places.specs.Tables.{rowForm, rowModel, Rows, setOf, Tables, Down, Passed, Ready, Fell, Ended, Falling, Free, Wires}
+use Rattle.bits.specs.Sets.{Clear}
 use Rattle.places.specs.Firsts.{model-row, side-part, seq-row, choice-row, star-row, first-below}
-
-pub or-or : (a b c : Bool) → a || b || c ≡ a || (b || c)
-or-or true b c = refl
-or-or false b c = refl
 
 -- ---- what is handed to the first side of a sequence
 

@@ -15,15 +15,12 @@ use Rattle.meaning.specs.Kinds.{TypeRow, typeForm}
 use Rattle.meaning.specs.Places.{modelForm, nullable, first}
 use Rattle.meaning.specs.Laws.Bools.{or-false, either}
 use Rattle.meaning.specs.Laws.Tests.{table-low, table-high}
-use Rattle.meaning.specs.Laws.Apart.{View, v-none, v-empty, v-text, v-bool, v-label, v-seq, v-choice, v-star, v-name, view, Side, side-lower, modelAt-row, model-below, first-has}
+use Rattle.meaning.specs.Laws.Apart.{PlaceKind, View, v-none, v-empty, v-text, v-bool, v-label, v-seq, v-choice, v-star, v-name, view, Side, side-lower, modelAt-row, model-below, first-has}
 use Rattle.meaning.specs.Laws.Shaped.{Part}
 use Rattle.bits.specs.Sets.{inSet, Added, United}
 use Rattle.barren.specs.Flags.{flag, flag-set, flag-kept}
-use Rattle.places.specs.Tables.{rowForm, rowModel, Rows, setOf, Clear, Nulls, Firsts, Tables}
-
--- rows of kind 2, 3, 4 and 8 are places
-abbrev pub PlaceKind : ℕ → Type 0
-PlaceKind k = (k ≡ 2) ⊎ ((k ≡ 3) ⊎ ((k ≡ 4) ⊎ (k ≡ 8)))
+use Rattle.places.specs.Tables.{rowForm, rowModel, Rows, setOf, Nulls, Firsts, Tables}
+use Rattle.bits.specs.Sets.{Clear}
 
 pub place-kind : (k : ℕ) → 2 ≤ k → k < 5 → PlaceKind k
 place-kind k l h = elim (ℕ-discrete k 2) [ yes z ↦ inl z | no z ↦ elim (ℕ-discrete k 3) [ yes y ↦ inr (inl y) | no y ↦ inr (inr (inl (omega arith))) ] ]

@@ -1,7 +1,5 @@
--- The tables of first and next sets, how they are filled row by row, and that each row has one user.
+-- The tables of first and next sets, and how they are filled row by row.
 pub mod Tables
 pub mod Firsts
 pub mod Behind
-pub mod Roots
 pub mod Sheets
-pub mod Users

@@ -30,9 +30,6 @@ module _ (s : List ℕ) (e : shapely s ≡ true) where
   shaped-rows = record { few = few-types s e; lower = shaped-lower s e; once = shaped-once s e; low = side-low }
 
 module _ {s : List ℕ} {l : Layout} (L : Laid s l) where
-  pub laid-at : l .«types_at» < 4194304
-  laid-at = omega (arith, L .types-at, L .names, L .few-names)
-
   pub laid-rows : shapely s ≡ true → Rows (row3 s (l .«types_at») (l .types)) (l .types)
   unfolding scriptOf
   laid-rows e = rw (L .types-at, L .types) (shaped-rows s e)

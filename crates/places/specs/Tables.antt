@@ -1,4 +1,4 @@
--- The tables of a table of type rows: which rows may be empty, what may stand first at each row and what may stand next behind each row; and which rows of a sheet are declared types or contents.
+-- The tables of a table of type rows: which rows may be empty, what may stand first at each row and what may stand next behind each row.
 use Prim.Native.Nat.{ℕ, _+_, _*_, _/_, _%_, _≤_, _<_}
 use mathlib.Core.Path.{_≡_}
 use mathlib.Core.Bool.{Bool, true, false, _&&_, _||_}
@@ -8,10 +8,10 @@ use lib.ListN.{length, replicate, length-replicate}
 use Rattle.meaning.specs.Tests.{inTable}
 use Rattle.meaning.specs.Sheet.{Cells, scriptOf}
 use Rattle.meaning.specs.Kinds.{TypeRow, typeForm}
-use Rattle.meaning.specs.Places.{Model, modelAt, Set, nullable, first, is-declared, is-content}
+use Rattle.meaning.specs.Places.{Model, modelAt, Set, nullable, first}
 use Rattle.meaning.specs.Laws.Wired.{Wired, ends}
 use Rattle.meaning.specs.Laws.Apart.{Side, Lower, Once}
-use Rattle.bits.specs.Sets.{inSet}
+use Rattle.bits.specs.Sets.{inSet, Clear}
 use Rattle.bits.specs.Digits.{bit-none}
 use Rattle.meaning.specs.Laws.Words.{zeros}
 use Rattle.barren.specs.Flags.{flag}
@@ -37,15 +37,6 @@ pub record Rows (row : ℕ → Cells) (n : ℕ) : Type 0 where
 -- set k of a table: there is room for the places 0 to 575
 abbrev pub setOf : List ℕ → ℕ → Set
 setOf t k = λ b. ltb b 576 && inSet t k b
-
--- row r is a declared type or a content
-abbrev pub isRoot : List ℕ → ℕ → Bool
-isRoot s r = is-declared (scriptOf s) r || is-content (scriptOf s) r
-
--- no set has a member
-pub record Clear (t : List ℕ) : Type 0 where
-  pub size : length t ≡ 4617
-  pub none : (k b : ℕ) → b < 576 → inSet t k b ≡ false
 
 -- the flags of the rows below i say which may be empty
 pub record Nulls (row : ℕ → Cells) (null : List ℕ) (i : ℕ) : Type 0 where
@@ -112,11 +103,6 @@ Free row root top = (i j : ℕ) → 1 ≤ i → i ≤ top → Side (rowForm row 
 -- the sets of the rows up to `top` are wired for the model at each root
 pub record Wires (row : ℕ → Cells) (root t : List ℕ) (top : ℕ) : Type 0 where
   pub wired : (r : ℕ) → 1 ≤ r → r ≤ top → flag root r ≡ true → Wired (setOf t) (rowModel row r) ends
-
--- the flags say which rows are declared types or contents
-pub record Rooted (s root : List ℕ) : Type 0 where
-  pub size : length root ≡ 513
-  pub at : (r : ℕ) → r < 513 → flag root r ≡ isRoot s r
 
 -- ---- zeros
 

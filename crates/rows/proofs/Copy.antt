@@ -10,14 +10,14 @@ use Rattle.meaning.specs.Sheet.{Cells}
 use Rattle.meaning.specs.Forest.{Tree, Forest, nil, cons, _⊕_, count, treeForm, forestAt}
 use Rattle.meaning.specs.Run.{kept}
 use Rattle.meaning.specs.Laws.Forest.{⊕-nil, ⊕-assoc, count-⊕}
-use Rattle.meaning.specs.Laws.Rows.{LowRow, LowRows, SameRows, tree-same, forestAt-zero}
+use Rattle.meaning.specs.Laws.Rows.{node-form, LowRow, LowRows, SameRows, tree-same, forestAt-zero}
 use Rattle.meaning.specs.Theorems.ReadBack.{lentRow}
 use Rattle.walk.specs.Meets.{low-same, same-trans, forest-kept}
 use Rattle.walk.specs.Loop.{Links, gathered}
 use Rattle.sheet.specs.Laid.{Words}
 use Rattle.rows.specs.Rows.{Readable, Pushed, JoinAsks, Wrote, Joined, GatherAsks, Gathered, PickAsks, Picked, Labelled, Sought}
 use Rattle.rows.specs.Table.{read-next, read-child, read-forest, read-count, forest-none, count-none, push-low, push-forest}
-use Rattle.rows.proofs.Labels.{node-form, out-three, pick-yes, pick-count, kept-none, count-kept-none, sought-kept}
+use Rattle.rows.proofs.Labels.{out-three, pick-yes, pick-count, kept-none, count-kept-none, sought-kept}
 
 -- ---- counts
 

@@ -12,7 +12,7 @@ use Rattle.meaning.specs.Sheet.{Cells}
 use Rattle.meaning.specs.Forest.{Tree, Forest, nil, cons, _⊕_, count, textAt, treeForm, forestAt}
 use Rattle.meaning.specs.Run.{kept}
 use Rattle.meaning.specs.Laws.Tests.{table-low, table-high}
-use Rattle.meaning.specs.Laws.Rows.{LowRows, SameRows}
+use Rattle.meaning.specs.Laws.Rows.{LowRows, SameRows, node-form}
 use Rattle.meaning.specs.Theorems.ReadBack.{lentRow}
 use Rattle.walk.specs.Meets.{forest-kept}
 use Rattle.rows.specs.Rows.{Labelled, Judged, JudgedBy, Sought}
@@ -26,18 +26,6 @@ out-three k h = go (inTable 3 k) refl
     go : (t : Bool) → inTable 3 k ≡ t → t ≡ false
     go true e = absurd (h (table-low 3 k e) (table-high 3 k e))
     go false e = refl
-
-form-of : (byte : ℕ → ℕ) (p q k : ℕ) (f : Forest) → inTable 3 k ≡ false
-    → getD (Tree.node p f ∷ Tree.text (textAt byte p q) ∷ Tree.bool false ∷ Tree.bool true ∷ []) k (Tree.node p f) ≡ Tree.node p f
-form-of byte p q zero f e = refl
-form-of byte p q (suc zero) f e = absurd (false≢true (sym e))
-form-of byte p q (suc (suc zero)) f e = absurd (false≢true (sym e))
-form-of byte p q (suc (suc (suc zero))) f e = absurd (false≢true (sym e))
-form-of byte p q (suc (suc (suc (suc k)))) f e = refl
-
--- any other kind is a labelled tree
-pub node-form : (byte : ℕ → ℕ) (c : Cells) (f : Forest) → inTable 3 (c .kind) ≡ false → treeForm byte c f ≡ Tree.node (c .p) f
-node-form byte c f e = form-of byte (c .p) (c .q) (c .kind) f e
 
 leaf-of : (byte : ℕ → ℕ) (l p q k : ℕ) (f rest : Forest) → inTable 3 k ≡ true
     → kept l (cons (getD (Tree.node p f ∷ Tree.text (textAt byte p q) ∷ Tree.bool false ∷ Tree.bool true ∷ []) k (Tree.node p f)) rest) ≡ kept l rest

@@ -11,7 +11,7 @@ use Rattle.meaning.specs.Forest.{Tree, Forest, nil, cons, only, _⊕_, count, t
 use Rattle.meaning.specs.Run.{Seen, nothing, many, a-text, a-bool, a-node, seen, kept, copied}
 use Rattle.meaning.specs.Walk.{ret, pay, gives, Settles, done, Quiet, Unasked}
 use Rattle.meaning.specs.Laws.Forest.{count-⊕}
-use Rattle.meaning.specs.Laws.Rows.{LowRow, LowRows, SameRows, forestAt-zero}
+use Rattle.meaning.specs.Laws.Rows.{node-form, LowRow, LowRows, SameRows, forestAt-zero}
 use Rattle.meaning.specs.Laws.Walk.{leads-pay}
 use Rattle.meaning.specs.Theorems.ReadBack.{lentRow}
 use Rattle.walk.specs.Meets.{Roomy, Finished}
@@ -19,7 +19,7 @@ use Rattle.walk.specs.Loop.{Links, gathered, keepOf, Turned}
 use Rattle.sheet.specs.Laid.{Words}
 use Rattle.rows.specs.Rows.{Readable, Pushed, JoinAsks, Wrote, PickAsks, MakeAsks, made}
 use Rattle.rows.specs.Table.{read-next, read-child, read-forest, forest-none, push-low, push-forest}
-use Rattle.rows.proofs.Labels.{node-form, out-three}
+use Rattle.rows.proofs.Labels.{out-three}
 
 -- ---- what is written, its copies paid
 

@@ -13,6 +13,7 @@ use Rattle.meaning.specs.Words.{wordAt}
 use Rattle.meaning.specs.Sheet.{Cells}
 use Rattle.meaning.specs.Forest.{Tree, Forest, nil, cons, count, treeForm, forestAt}
 use Rattle.meaning.specs.Laws.Rows.{LowRow, LowRows, SameRows, tree-same, forestAt-zero, forestAt-suc}
+use Rattle.meaning.specs.Laws.Shaped.{cells}
 use Rattle.meaning.specs.Theorems.ReadBack.{lentRow}
 use Rattle.words.specs.Puts.{putWord}
 use Rattle.walk.specs.Meets.{low-same, forest-kept}
@@ -38,9 +39,6 @@ put-length : (b : List ℕ) (i v : ℕ) → length (putWord b i v) ≡ length b
 put-length b i v = length-set (set b (2 * i) (v % 256)) (2 * i + 1) (v / 256 % 256) ∙ length-set b (2 * i) (v % 256)
 
 -- ---- a row written
-
-abbrev cells : ℕ → ℕ → ℕ → ℕ → Cells
-cells k p q x = record { kind = k; p = p; q = q; r = x }
 
 pub cells-eq : {k k' p p' q q' x x' : ℕ} → k ≡ k' → p ≡ p' → q ≡ q' → x ≡ x' → cells k p q x ≡ cells k' p' q' x'
 cells-eq a b c d = rw (a, b, c, d)

@@ -131,3 +131,7 @@ module _ {s : List ℕ} {l : Layout} (L : Laid s l) where
   pub a-name : (x : ℕ) → inTable (l .names) x ≡ true → wordAt s (13 + (x - 1)) ≡ scriptOf s .nameRow x
   unfolding scriptOf
   a-name x e = rw (← (L .names), e)
+
+-- the table of types begins at a small number
+pub laid-at : {s : List ℕ} {l : Layout} → Laid s l → l .«types_at» < 4194304
+laid-at L = omega (arith, L .types-at, L .names, L .few-names)

@@ -1,2 +1,3 @@
 -- What the layout of a sheet and the rows read by it stand for.
 pub mod Laid
+pub mod Counts

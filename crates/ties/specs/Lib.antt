@@ -1,5 +1,4 @@
--- Heads by number, their classes, ties point by point, and that the lowest of them is the sheet's.
-pub mod Heads
-pub mod Classes
+-- One user for each row, ties point by point, and that the lowest of them is the sheet's.
+pub mod Users
 pub mod Points
 pub mod Sound

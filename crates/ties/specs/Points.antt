@@ -22,10 +22,10 @@ use Rattle.bits.specs.Counts.{countTo, count-single, count-two}
 use Rattle.barren.specs.Flags.{flag}
 use Rattle.meaning.specs.Laws.Shaped.{few-types, kind-in}
 use Rattle.places.specs.Tables.{setOf}
-use Rattle.places.specs.Firsts.{PlaceKind}
+use Rattle.meaning.specs.Laws.Apart.{PlaceKind}
 use Rattle.ties.specs.declared.Tied.{Tied}
-use Rattle.ties.specs.Heads.{headNumber, head-place}
-use Rattle.ties.specs.Classes.{Classes}
+use Rattle.heads.specs.Heads.{headNumber, head-place}
+use Rattle.heads.specs.Classes.{Classes}
 
 abbrev pub no-tie : Tied
 no-tie = record { row = 0; rival = 0 }

@@ -22,14 +22,15 @@ use Rattle.sheet.specs.Laid.{Laid}
 use Rattle.barren.specs.Flags.{flag}
 use Rattle.meaning.specs.Laws.Shaped.{few-types}
 use Rattle.barren.specs.Marks.{SaysBarren}
-use Rattle.places.specs.Tables.{modelOf, setOf, isRoot, Tables, Free, Rooted, Wires}
-use Rattle.places.specs.Firsts.{PlaceKind}
+use Rattle.places.specs.Tables.{modelOf, setOf, Tables, Free, Wires}
+use Rattle.roots.specs.Roots.{isRoot, Rooted}
+use Rattle.meaning.specs.Laws.Apart.{PlaceKind}
 use Rattle.places.specs.Sheets.{laid-tables, laid-free, laid-wires}
-use Rattle.places.specs.Users.{above, has-place, place-has, rooted-free}
+use Rattle.ties.specs.Users.{above, has-place, place-has, rooted-free}
 use Rattle.ties.specs.declared.Tied.{Tied}
 use Rattle.ties.specs.declared.Soundness.{Soundness}
 use Rattle.ties.specs.declared.Soundness.the-variants.{Done, Barren, Tie as Tying}
-use Rattle.ties.specs.Heads.{headNumber, place-head, head-place, heads-same}
+use Rattle.heads.specs.Heads.{headNumber, place-head, head-place, heads-same}
 use Rattle.ties.specs.Points.{PointTie, Least, AtStart, AtPlace, Upto}
 
 module _ (s : List ℕ) (e : shapely s ≡ true) where

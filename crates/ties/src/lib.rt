@@ -1,17 +1,14 @@
-// Heads of places, ties, and whether a well shaped sheet is sound: refusals 3 and 4. Ones count the places of a head at a point; trailing zeros find the lowest and its lowest rival.
+// Ties, and whether a well shaped sheet is sound: refusals 3 and 4. Ones count the places of a head at a point; trailing zeros find the lowest and its lowest rival.
 use sheet::Layout;
-use sheet::Row;
 ghost use mathlib.Core.Path.{_≡_};
 ghost use mathlib.Core.Bool.{true};
 ghost use Prim.Native.Nat.{_+_, _<_, _≤_};
-ghost use lib.ListN.{replicate};
 ghost use Rattle.meaning.specs.Sheet.{scriptOf};
 ghost use Rattle.meaning.specs.Shape.{shapely};
-ghost use Rattle.sheet.specs.Laid.{Laid, cellsOf};
+ghost use Rattle.sheet.specs.Laid.{Laid};
 ghost use Rattle.bits.specs.Sets.{inSet};
-ghost use Rattle.places.specs.Tables.{setOf, Clear};
-ghost use Rattle.ties.specs.Heads.{standsFor, actingAt, headNo, headNumber};
-ghost use Rattle.ties.specs.Classes.{Led, Classed, Classes};
+ghost use Rattle.places.specs.Tables.{setOf};
+ghost use Rattle.heads.specs.Classes.{Classes};
 ghost use Rattle.ties.specs.Sound.{SaysTie, soundOf};
 ghost use Rattle.meaning.specs.Reply.{Loads};
 ghost use Rattle.ties.specs.Points.{PointTie, OfPlace, Least, Lower, AtStart, AtPlace, Upto};
@@ -20,95 +17,6 @@ ghost use Rattle.ties.specs.Points.{PointTie, OfPlace, Least, Lower, AtS
 pub struct Tied {
     pub row: usize,
     pub rival: usize,
-}
-
-// The row that an atom's row stands for: a name's label row, and else itself.
-pub fn stands_for(s: &[u8], l: Layout, c: Row) -> Row
-    requires { ⌜ Laid (now s) l ⌝ }
-    ensures { λ r. ⌜ cellsOf r ≡ standsFor (now (s .entry)) (cellsOf c) ⌝ }
-{
-    if c.kind == 8 {
-        return sheet::type_row(s, l, sheet::name_row(s, l, c.p));
-    }
-    c
-}
-
-// The row that a place of the sheet acts as.
-pub fn acting(s: &[u8], l: Layout, a: usize) -> Row
-    requires { ⌜ Laid (now s) l ⌝ }
-    ensures { λ c. ⌜ cellsOf c ≡ actingAt (now (s .entry)) a ⌝ }
-{
-    stands_for(s, l, sheet::type_row(s, l, a))
-}
-
-// The head of such a row by number: a label, 1024 text, 1025 bool; 1026 for what is no atom.
-pub fn head_of(c: Row) -> usize
-    ensures { λ h. ⌜ h ≡ headNo (cellsOf c) ⌝ }
-{
-    let kind = c.kind;
-    match kind {
-        2 => 1024,
-        3 => 1025,
-        4 => c.p,
-        0..=1 | 5..=65535 => 1026,
-    }
-}
-
-// The head of a place of the sheet.
-fn head(s: &[u8], l: Layout, a: usize) -> usize
-    requires { ⌜ Laid (now s) l ⌝ }
-    ensures { λ h. ⌜ h ≡ headNumber (now (s .entry)) a ⌝ }
-{
-    head_of(acting(s, l, a))
-}
-
-fn wide(x: u16) -> usize
-    ensures { λ r. ⌜ r ≡ x ⌝ }
-{
-    x as usize
-}
-
-// The lowest place of head `h`, which is `i` where there was none.
-fn lead(h: usize, i: usize, class: &mut [u16; 1026]) -> usize
-    requires { ⌜ (h < 1026) × (i < 65536) ⌝ }
-    ensures { λ r. ⌜ Led (now (class .entry)) (now (class .exit)) h i r ⌝ }
-{
-    let c = class[h];
-    if c != 0 {
-        return wide(c);
-    }
-    class[h] = i as u16;
-    i
-}
-
-// Puts row `i + 1` into the class of its head.
-fn classify(s: &[u8], l: Layout, i: usize, class: &mut [u16; 1026], same: &mut [u64; 4617])
-    requires { ⌜ shapely (now s) ≡ true ⌝ }
-    requires { ⌜ Laid (now s) l ⌝ }
-    requires { ⌜ i < l .types ⌝ }
-    requires { ⌜ Classed (now s) (now class) (now same) i ⌝ }
-    ensures { λ _. ⌜ Classed (now (s .entry)) (now (class .exit)) (now (same .exit)) (i + 1) ⌝ }
-{
-    let h = head(s, l, i + 1);
-    if h < 1026 {
-        let c = lead(h, i + 1, class);
-        bits::add(same, c, i + 1);
-    }
-}
-
-// The places of each head: `class` has for each head the lowest place with it (0: none), and that set of `same` holds them all.
-pub fn classes(s: &[u8], l: Layout, class: &mut [u16; 1026], same: &mut [u64; 4617])
-    requires { ⌜ shapely (now s) ≡ true ⌝ }
-    requires { ⌜ Laid (now s) l ⌝ }
-    requires { ⌜ now class ≡ replicate 1026 0 ⌝ }
-    requires { ⌜ Clear (now same) ⌝ }
-    ensures { λ _. ⌜ Classes (now (s .entry)) (now (class .exit)) (now (same .exit)) ⌝ }
-{
-    let mut i = 0;
-    while i < l.types {
-        classify(s, l, i, class, same);
-        i += 1;
-    }
 }
 
 // The lower of two: by the row, then by the rival.
@@ -150,11 +58,11 @@ fn of_place(
     requires { ⌜ Classes (now s) (now class) (now same) ⌝ }
     ensures { λ r. ⌜ OfPlace (now (s .entry)) (setOf (now (t .entry)) k) i r ⌝ }
 {
-    let h = head(s, l, i);
+    let h = heads::head(s, l, i);
     if 1026 <= h {
         return Tied { row: 0, rival: 0 };
     }
-    let c = wide(class[h]);
+    let c = heads::wide(class[h]);
     if bits::count_both(t, k, same, c) < 2 {
         return Tied { row: 0, rival: 0 };
     }
@@ -226,7 +134,7 @@ fn at_place(
     requires { ⌜ Classes (now s) (now class) (now same) ⌝ }
     ensures { λ r. ⌜ Least (AtPlace (now (s .entry)) (now (behind .entry)) i) r ⌝ }
 {
-    if head(s, l, i) < 1026 {
+    if heads::head(s, l, i) < 1026 {
         return at_point(s, l, behind, i, class, same);
     }
     Tied { row: 0, rival: 0 }
@@ -270,7 +178,7 @@ fn lowest_tie(s: &[u8], l: Layout) -> Tied
     let mut class = [0u16; 1026];
     let mut same = [0u64; 4617];
     places::firsts(s, l.types_at, l.types, &mut null, &mut first);
-    places::roots(s, l, &mut root);
+    roots::roots(s, l, &mut root);
     places::behinds(
         s,
         l.types_at,
@@ -281,7 +189,7 @@ fn lowest_tie(s: &[u8], l: Layout) -> Tied
         &first,
         &mut behind,
     );
-    classes(s, l, &mut class, &mut same);
+    heads::classes(s, l, &mut class, &mut same);
     tie(s, l, &root, &first, &behind, &class, &same)
 }
 

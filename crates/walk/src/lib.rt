@@ -37,6 +37,14 @@ impl Purse {
         }
         Taken::Left(Purse { left: left - n })
     }
+
+    // The units that it no longer holds, of `fuel`.
+    pub fn spent(self, fuel: usize) -> usize
+        requires { ⌜ self .left ≤ fuel ⌝ }
+        ensures { λ r. ⌜ r + self .left ≡ fuel ⌝ }
+    {
+        fuel - self.left
+    }
 }
 
 // A place of the scope: 1 for a forest variable, 2 for a tree variable; its value is a row.

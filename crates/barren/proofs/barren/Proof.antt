@@ -3,7 +3,7 @@ use Prim.Native.Nat.{ℕ, _-_}
 use mathlib.Core.Path.{_≡_}
 use native.Mathlib.Omega.{arith}
 use lib.ListN.{length, length-replicate}
-use Rattle.barren.specs.Rows.{names-high}
+use Rattle.sheet.specs.Counts.{names-high}
 use Rattle.barren.specs.Marks.{Turned, turned-none, turned-more, turned-up, turned-closed, turned-most, says-lowest, says-none}
 use Rattle.barren.proofs.barren.Statement.{statement}
 use Rattle.barren.proofs.barren.Tie as tie

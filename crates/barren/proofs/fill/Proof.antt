@@ -4,7 +4,7 @@ use mathlib.Core.Path.{_∙_}
 use native.Mathlib.Omega.{arith}
 use borrow.Author.Needs.{needs}
 use Rattle.barren.specs.Flags.{flag}
-use Rattle.barren.specs.Rows.{types-high}
+use Rattle.sheet.specs.Counts.{types-high}
 use Rattle.barren.specs.Marks.{Filled, filled-none, filled-more, filled-all}
 use Rattle.barren.proofs.fill.Statement.{statement}
 use Rattle.barren.proofs.fill.Tie as tie
@@ -19,35 +19,27 @@ Inv-loop s l marked full₀ i₀ full i = (1 ≤ i) × (i ≤ l .types + 1) × F
 abbrev μ-loop : tie.MeasureT-loop
 μ-loop s l marked full₀ i₀ full i = l .types + 1 - i
 
--- src/lib.rt:65:5
 loop-holds : tie.Need-loop-holds Inv-loop μ-loop
 loop-holds c = (omega arith, omega arith, filled-none (c .before .args .s .now) (flag (c .before .args .marked .now)) (c .before .args .full .now) (c .before .pre .1 .1))
 
--- src/lib.rt:66:25
 fills-requires : tie.Need-fills-requires Inv-loop μ-loop
 fills-requires c κs = (c .before .before .before .before .before .pre .0, (c .before .before .before .before .before .pre .1 .0, ((c .before .before .before .loop .inv .0, c .before .if1 .taken), c .before .before .before .loop .inv .2)))
 
--- src/lib.rt:66:19
 digit-requires : tie.Need-digit-requires Inv-loop μ-loop
 digit-requires c κs = search needs
 
--- src/lib.rt:66:9
 element-write-full : tie.Need-element-write-full Inv-loop μ-loop
 element-write-full c = omega (arith, types-high (c .before .before .before .before .before .before .before .pre .1 .0) {i = c .before .before .before .before .before .loop .i} (c .before .before .before .before .before .before .before .pre .0) (omega arith))
 
--- src/lib.rt:67:9
 add-i : tie.Need-add-i Inv-loop μ-loop
 add-i c = omega (arith, types-high (c .before .before .before .before .before .before .before .pre .1 .0) {i = c .before .before .before .before .before .loop .i} (c .before .before .before .before .before .before .before .pre .0) (omega arith))
 
--- src/lib.rt:65:5
 loop-less : tie.Need-loop-less Inv-loop μ-loop
 loop-less c = search needs
 
--- src/lib.rt:65:5
 loop-again : tie.Need-loop-again Inv-loop μ-loop
 loop-again c = (omega arith, omega arith, filled-more (c .before .before .before .before .before .before .before .args .s .now) (flag (c .before .before .before .before .before .before .before .args .marked .now)) (c .before .before .before .before .before .loop .full) (c .before .before .before .before .before .loop .i) (c .digit .result) (c .before .before .before .before .before .loop .inv .2) (omega (arith, types-high (c .before .before .before .before .before .before .before .pre .1 .0) {i = c .before .before .before .before .before .loop .i} (c .before .before .before .before .before .before .before .pre .0) (omega arith))) (c .digit .ensures ∙ c .before .fills .ensures))
 
--- src/lib.rt:58:1
 returns : tie.Need-returns Inv-loop μ-loop
 returns c = filled-all (c .before .before .before .before .pre .1 .0) (omega arith) (c .before .before .loop .inv .2)
 

@@ -8,7 +8,7 @@ use Rattle.meaning.specs.Sheet.{scriptOf}
 use Rattle.meaning.specs.Laws.Tests.{table-high}
 use Rattle.barren.specs.Flags.{flag}
 use Rattle.meaning.specs.Laws.Shaped.{named, few-types}
-use Rattle.barren.specs.Rows.{in-names, names-high}
+use Rattle.sheet.specs.Counts.{in-names, names-high}
 use borrow.Author.Needs.{needs}
 use Rattle.barren.proofs.mark.Statement.{statement}
 use Rattle.barren.proofs.mark.Tie as tie
@@ -16,23 +16,18 @@ use Rattle.barren.proofs.mark.Reads as reads
 use Rattle.barren.proofs.mark.Lts as lts
 use Rattle.sheet.proofs.name_row.Reads as name-row-reads
 
--- src/lib.rt:78:13
 name-row-requires : tie.Need-name-row-requires
 name-row-requires c κs = search needs
 
--- src/lib.rt:78:8
 element-copy-out-if1 : tie.Need-element-copy-out-if1
 element-copy-out-if1 c = let h = named (c .before .before .args .s .now) (c .before .before .pre .0) (c .before .before .args .x) (in-names (c .before .before .pre .1 .0) (c .before .before .pre .1 .1)) in omega (arith, c .name-row .ensures .0, table-high (scriptOf (c .before .before .args .s .now) .types) (scriptOf (c .before .before .args .s .now) .nameRow (c .before .before .args .x)) (h .0), few-types (c .before .before .args .s .now) (c .before .before .pre .0))
 
--- src/lib.rt:79:9
 element-write-marked : tie.Need-element-write-marked
 element-write-marked c = omega (arith, names-high (c .before .before .before .before .pre .1 .0) {i = c .before .before .before .before .args .x} (c .before .before .before .before .pre .0) (c .before .before .before .before .pre .1 .1 .1))
 
--- src/lib.rt:72:1
 returns : tie.Need-returns
 returns c = let e : flag (c .before .before .before .before .args .full .now) (scriptOf (c .before .before .before .before .args .s .now) .nameRow (c .before .before .before .before .args .x)) ≡ true = rw (← c .before .before .name-row .ensures .0) (eq-eqb (getD (c .before .before .before .before .args .full .now) (c .before .before .name-row .result) 0) 1 (c .if1 .taken)) in rw e
 
--- src/lib.rt:72:1
 returns-2 : tie.Need-returns-2
 returns-2 c = let e : flag (c .before .before .before .before .args .full .now) (scriptOf (c .before .before .before .before .args .s .now) .nameRow (c .before .before .before .before .args .x)) ≡ false = rw (← c .before .before .name-row .ensures .0) (ne-eqb (getD (c .before .before .before .before .args .full .now) (c .before .before .name-row .result) 0) 1 (c .if1 .left)) in rw e
 

@@ -3,7 +3,7 @@ use Prim.Native.Nat.{_≤_, _-_, _+_}
 use native.Mathlib.Omega.{arith}
 use borrow.Author.Needs.{needs}
 use Rattle.barren.specs.Flags.{flag}
-use Rattle.barren.specs.Rows.{in-names, names-high}
+use Rattle.sheet.specs.Counts.{in-names, names-high}
 use Rattle.barren.specs.Marks.{Rounding, rounding-none, rounding-more, rounding-all, content-fills}
 use Rattle.barren.proofs.mark_all.Statement.{statement}
 use Rattle.barren.proofs.mark_all.Tie as tie
@@ -17,27 +17,21 @@ Inv-loop s l full marked₀ x₀ marked x = (1 ≤ x) × (x ≤ l .names + 1) ×
 abbrev μ-loop : tie.MeasureT-loop
 μ-loop s l full marked₀ x₀ marked x = l .names + 1 - x
 
--- src/lib.rt:92:5
 loop-holds : tie.Need-loop-holds Inv-loop μ-loop
 loop-holds c = (omega arith, omega arith, rounding-none (c .before .args .s .now) (c .before .args .marked .now))
 
--- src/lib.rt:93:9
 mark-requires : tie.Need-mark-requires Inv-loop μ-loop
 mark-requires c κs = search needs
 
--- src/lib.rt:94:9
 add-x : tie.Need-add-x Inv-loop μ-loop
 add-x c = omega (arith, names-high (c .before .before .before .before .before .before .pre .1 .0) {i = c .before .before .before .before .loop .x} (c .before .before .before .before .before .before .pre .0) (omega arith))
 
--- src/lib.rt:92:5
 loop-less : tie.Need-loop-less Inv-loop μ-loop
 loop-less c = search needs
 
--- src/lib.rt:92:5
 loop-again : tie.Need-loop-again Inv-loop μ-loop
 loop-again c = (omega arith, omega arith, rw (c .mark .ensures) (rounding-more (c .before .before .before .before .before .before .args .s .now) (c .before .before .before .before .before .before .args .marked .now) (c .before .before .before .before .loop .marked) (c .before .before .before .before .loop .x) _ (in-names (c .before .before .before .before .before .before .pre .1 .0) (c .before .before .before .before .loop .inv .0, omega arith)) (omega (arith, names-high (c .before .before .before .before .before .before .pre .1 .0) {i = c .before .before .before .before .loop .x} (c .before .before .before .before .before .before .pre .0) (omega arith), c .before .before .before .before .before .before .pre .1 .1 .1)) (content-fills (c .before .before .before .before .before .before .args .s .now) (c .before .before .before .before .before .before .pre .0) (flag (c .before .before .before .before .before .before .args .marked .now)) (c .before .before .before .before .before .before .pre .1 .1 .0) (c .before .before .before .before .loop .x) (in-names (c .before .before .before .before .before .before .pre .1 .0) (c .before .before .before .before .loop .inv .0, omega arith))) (c .before .before .before .before .loop .inv .2)))
 
--- src/lib.rt:84:1
 returns : tie.Need-returns Inv-loop μ-loop
 returns c = rounding-all (c .before .before .before .before .pre .1 .0) (omega arith) (c .before .before .loop .inv .2)
 

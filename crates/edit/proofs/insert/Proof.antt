@@ -1,6 +1,9 @@
 -- `edit::insert` meets its contract: a query on an empty focus, else Stuck.
+use native.Mathlib.Omega.{arith}
+use mathlib.Core.Path.{refl}
 use Rattle.edit.specs.Edit.{edits-query, fits-insert}
 use Rattle.edit.proofs.Laws.{insert-stuck, insert-met}
+use borrow.Author.Needs.{needs}
 use Rattle.edit.proofs.insert.Statement.{statement}
 use Rattle.edit.proofs.insert.Tie as tie
 

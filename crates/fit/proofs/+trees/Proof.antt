@@ -11,7 +11,7 @@ use Rattle.fit.proofs.+trees.Lts-trees as trees-lts
 use Rattle.fit.proofs.may_end.Reads as may-end-reads
 use Rattle.fit.proofs.place.Reads as place-reads
 use Rattle.fit.proofs.tree_head.Reads as tree-head-reads
-use Rattle.ties.proofs.acting.Reads as acting-reads
+use Rattle.heads.proofs.acting.Reads as acting-reads
 use Rattle.sheet.proofs.forest_row.Reads as forest-row-reads
 use Rattle.fit.proofs.+trees.{statement}
 use Rattle.fit.proofs.+trees.Tie.{close}

@@ -4,7 +4,8 @@ use native.Mathlib.Omega.{arith}
 use denote.Ref.{now}
 use Rattle.barren.specs.Flags.{unset}
 use Rattle.places.specs.Tables.{clear-zeros}
-use Rattle.places.specs.Sheets.{laid-at, laid-rows}
+use Rattle.sheet.specs.Laid.{laid-at}
+use Rattle.places.specs.Sheets.{laid-rows}
 use Rattle.ties.specs.Sound.{free-rows}
 use Rattle.fit.proofs.Whole.{ready, told-index, told-low, told-alone, told-walks, of-type}
 use Rattle.fit.proofs.of_type.Statement.{statement}

@@ -5,11 +5,9 @@ use Rattle.kinds.proofs.argument.Tie as tie
 use Rattle.kinds.proofs.argument.Reads as reads
 use Rattle.kinds.proofs.argument.Lts as lts
 
--- src/lib.rt:78:1
 returns : tie.Need-returns
 returns c = rw (eq-eqb (c .before .args .parameter) 0 (c .if1 .taken))
 
--- src/lib.rt:78:1
 returns-2 : tie.Need-returns-2
 returns-2 c = rw (ne-eqb (c .before .args .parameter) 0 (c .if1 .left))
 

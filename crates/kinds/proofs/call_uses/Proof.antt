@@ -9,19 +9,15 @@ use Rattle.kinds.proofs.call_uses.Lts as lts
 use Rattle.kinds.proofs.argument.Reads as argument-reads
 use Rattle.kinds.proofs.known.Reads as known-reads
 
--- src/lib.rt:95:27
 argument-requires : tie.Need-argument-requires
 argument-requires c κs = search needs
 
--- src/lib.rt:95:46
 argument-requires-2 : tie.Need-argument-requires-2
 argument-requires-2 c κs = search needs
 
--- src/lib.rt:95:5
 known-requires : tie.Need-known-requires
 known-requires c κs = search needs
 
--- src/lib.rt:92:1
 returns : tie.Need-returns
 returns c = record { is = ap isKnown (c .known .ensures); uses = rw (c .known .ensures, c .before .before .argument .ensures, c .before .argument2 .ensures) }
 

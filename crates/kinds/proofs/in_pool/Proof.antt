@@ -9,11 +9,9 @@ use Rattle.kinds.proofs.in_pool.Tie as tie
 use Rattle.kinds.proofs.in_pool.Reads as reads
 use Rattle.kinds.proofs.in_pool.Lts as lts
 
--- src/lib.rt:152:9
 returns : tie.Need-returns
 returns c = sym (lt-leb (c .before .args .offset + c .before .args .w) (c .before .args .pool) (omega arith))
 
--- src/lib.rt:148:1
 returns-2 : tie.Need-returns-2
 returns-2 c = pooled (c .before .args .pool) (c .before .args .offset) (c .before .args .w) (omega arith)
 

@@ -8,11 +8,9 @@ use Rattle.kinds.proofs.in_table.Tie as tie
 use Rattle.kinds.proofs.in_table.Reads as reads
 use Rattle.kinds.proofs.in_table.Lts as lts
 
--- src/lib.rt:142:9
 returns : tie.Need-returns
 returns c = sym (outside-low (c .before .args .n) (c .before .args .w) (c .if1 .taken))
 
--- src/lib.rt:138:1
 returns-2 : tie.Need-returns-2
 returns-2 c = rw (le-leb 1 (c .before .args .w) (omega arith))
 

@@ -8,11 +8,9 @@ use Rattle.kinds.proofs.lower.Tie as tie
 use Rattle.kinds.proofs.lower.Reads as reads
 use Rattle.kinds.proofs.lower.Lts as lts
 
--- src/lib.rt:162:9
 returns : tie.Need-returns
 returns c = sym (outside-low (c .before .args .row - 1) (c .before .args .w) (c .if1 .taken))
 
--- src/lib.rt:158:1
 returns-2 : tie.Need-returns-2
 returns-2 c = below (c .before .args .row) (c .before .args .w) (λ e. c .if1 .left e)
 

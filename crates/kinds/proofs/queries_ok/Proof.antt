@@ -4,7 +4,7 @@ use native.Mathlib.Omega.{arith}
 use Prim.Native.Nat.{_+_, _-_}
 use Rattle.meaning.specs.Sheet.{sheetOf}
 use Rattle.meaning.specs.Shape.{queryUses}
-use Rattle.kinds.specs.Turns.{Passed, none-yet, one-more, fails, passes}
+use Rattle.meaning.specs.Laws.Turns.{Passed, none-yet, one-more, fails, passes}
 use Rattle.kinds.proofs.RowTests.{turn, queryTest, queries-are}
 use Rattle.kinds.proofs.queries_ok.Statement.{statement}
 use Rattle.kinds.proofs.queries_ok.Tie as tie
@@ -20,39 +20,30 @@ Inv-loop s l i₀ i = Passed (queryTest s) (l .queries) i
 abbrev μ-loop : tie.MeasureT-loop
 μ-loop s l i₀ i = l .queries - i
 
--- src/lib.rt:229:5
 loop-holds : tie.Need-loop-holds Inv-loop μ-loop
 loop-holds c = none-yet (queryTest (c .before .args .s .now)) (c .before .args .l .queries)
 
--- src/lib.rt:230:9
 add-i : tie.Need-add-i Inv-loop μ-loop
 add-i c = omega (arith, c .before .before .before .before .pre .few-queries)
 
--- src/lib.rt:231:13
 query-row-requires : tie.Need-query-row-requires Inv-loop μ-loop
 query-row-requires c κs = c .before .before .before .before .pre
 
--- src/lib.rt:232:23
 query-uses-requires : tie.Need-query-uses-requires Inv-loop μ-loop
 query-uses-requires c κs = tt
 
--- src/lib.rt:232:13
 row-ok-requires : tie.Need-row-ok-requires Inv-loop μ-loop
 row-ok-requires c κs = tt
 
--- src/lib.rt:233:13
 returns : tie.Need-returns Inv-loop μ-loop
 returns c = sym (queries-are (c .before .before .before .before .before .before .before .before .pre) ∙ fails (queryTest (c .before .before .before .before .before .before .before .before .args .s .now)) (c .before .before .before .before .before .before .before .before .args .l .queries) (c .before .before .before .before .before .before .loop .i) (c .before .before .before .before .if1 .taken) (turn (sheetOf (c .before .before .before .before .before .before .before .before .args .s .now)) 13 queryUses (c .before .before .before .before .before .before .loop .i + 1) (c .before .before .before .query-row .ensures .0) (c .before .before .query-uses .ensures) (c .before .row-ok .ensures (c .before .before .before .before .before .before .before .before .args .s .now) (c .before .before .before .before .before .before .before .before .pre))) (c .if2 .taken))
 
--- src/lib.rt:229:5
 loop-less : tie.Need-loop-less Inv-loop μ-loop
 loop-less c = omega arith
 
--- src/lib.rt:229:5
 loop-again : tie.Need-loop-again Inv-loop μ-loop
 loop-again c = one-more (queryTest (c .before .before .before .before .before .before .before .before .args .s .now)) (c .before .before .before .before .before .before .before .before .args .l .queries) (c .before .before .before .before .before .before .loop .i) (c .before .before .before .before .before .before .loop .inv) (c .before .before .before .before .if1 .taken) (turn (sheetOf (c .before .before .before .before .before .before .before .before .args .s .now)) 13 queryUses (c .before .before .before .before .before .before .loop .i + 1) (c .before .before .before .query-row .ensures .0) (c .before .before .query-uses .ensures) (c .before .row-ok .ensures (c .before .before .before .before .before .before .before .before .args .s .now) (c .before .before .before .before .before .before .before .before .pre))) (c .if2 .left)
 
--- src/lib.rt:224:1
 returns-2 : tie.Need-returns-2 Inv-loop μ-loop
 returns-2 c = sym (queries-are (c .before .before .before .before .pre) ∙ passes (queryTest (c .before .before .before .before .args .s .now)) (c .before .before .before .before .args .l .queries) (c .before .before .loop .i) (c .before .before .loop .inv) (c .if1 .left))
 

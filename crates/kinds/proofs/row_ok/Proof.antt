@@ -6,23 +6,18 @@ use Rattle.kinds.proofs.row_ok.Reads as reads
 use Rattle.kinds.proofs.row_ok.Lts as lts
 use Rattle.kinds.proofs.words_ok.Reads as words-ok-reads
 
--- src/lib.rt:204:22
 enum-known-k : tie.Need-enum-known-k
 enum-known-k c = search needs
 
--- src/lib.rt:204:28
 words-ok-requires : tie.Need-words-ok-requires
 words-ok-requires c κs = search needs
 
--- src/lib.rt:205:27
 enum-told : tie.Need-enum-told
 enum-told c = search needs
 
--- src/lib.rt:200:1
 returns : tie.Need-returns
 returns c = λ s L. rw (c .before .before .k .given .1) (c .words-ok .ensures s L)
 
--- src/lib.rt:200:1
 returns-2 : tie.Need-returns-2
 returns-2 c = λ s L. rw (c .enum-told .given .1)
 

@@ -4,7 +4,7 @@ use native.Mathlib.Omega.{arith}
 use Prim.Native.Nat.{_+_, _-_}
 use Rattle.meaning.specs.Sheet.{sheetOf}
 use Rattle.meaning.specs.Shape.{forestUses}
-use Rattle.kinds.specs.Turns.{Passed, none-yet, one-more, fails, passes}
+use Rattle.meaning.specs.Laws.Turns.{Passed, none-yet, one-more, fails, passes}
 use Rattle.kinds.proofs.RowTests.{turn, rowTest, rows-are}
 use Rattle.kinds.proofs.rows_ok.Statement.{statement}
 use Rattle.kinds.proofs.rows_ok.Tie as tie
@@ -20,39 +20,30 @@ Inv-loop s l i₀ i = Passed (rowTest s) (l .rows) i
 abbrev μ-loop : tie.MeasureT-loop
 μ-loop s l i₀ i = l .rows - i
 
--- src/lib.rt:259:5
 loop-holds : tie.Need-loop-holds Inv-loop μ-loop
 loop-holds c = none-yet (rowTest (c .before .args .s .now)) (c .before .args .l .rows)
 
--- src/lib.rt:260:9
 add-i : tie.Need-add-i Inv-loop μ-loop
 add-i c = omega (arith, c .before .before .before .before .pre .few-rows)
 
--- src/lib.rt:261:13
 forest-row-requires : tie.Need-forest-row-requires Inv-loop μ-loop
 forest-row-requires c κs = c .before .before .before .before .pre
 
--- src/lib.rt:262:23
 forest-uses-requires : tie.Need-forest-uses-requires Inv-loop μ-loop
 forest-uses-requires c κs = tt
 
--- src/lib.rt:262:13
 row-ok-requires : tie.Need-row-ok-requires Inv-loop μ-loop
 row-ok-requires c κs = tt
 
--- src/lib.rt:263:13
 returns : tie.Need-returns Inv-loop μ-loop
 returns c = sym (rows-are (c .before .before .before .before .before .before .before .before .pre) ∙ fails (rowTest (c .before .before .before .before .before .before .before .before .args .s .now)) (c .before .before .before .before .before .before .before .before .args .l .rows) (c .before .before .before .before .before .before .loop .i) (c .before .before .before .before .if1 .taken) (turn (sheetOf (c .before .before .before .before .before .before .before .before .args .s .now)) 4 forestUses (c .before .before .before .before .before .before .loop .i + 1) (c .before .before .before .forest-row .ensures) (c .before .before .forest-uses .ensures) (c .before .row-ok .ensures (c .before .before .before .before .before .before .before .before .args .s .now) (c .before .before .before .before .before .before .before .before .pre))) (c .if2 .taken))
 
--- src/lib.rt:259:5
 loop-less : tie.Need-loop-less Inv-loop μ-loop
 loop-less c = omega arith
 
--- src/lib.rt:259:5
 loop-again : tie.Need-loop-again Inv-loop μ-loop
 loop-again c = one-more (rowTest (c .before .before .before .before .before .before .before .before .args .s .now)) (c .before .before .before .before .before .before .before .before .args .l .rows) (c .before .before .before .before .before .before .loop .i) (c .before .before .before .before .before .before .loop .inv) (c .before .before .before .before .if1 .taken) (turn (sheetOf (c .before .before .before .before .before .before .before .before .args .s .now)) 4 forestUses (c .before .before .before .before .before .before .loop .i + 1) (c .before .before .before .forest-row .ensures) (c .before .before .forest-uses .ensures) (c .before .row-ok .ensures (c .before .before .before .before .before .before .before .before .args .s .now) (c .before .before .before .before .before .before .before .before .pre))) (c .if2 .left)
 
--- src/lib.rt:254:1
 returns-2 : tie.Need-returns-2 Inv-loop μ-loop
 returns-2 c = sym (rows-are (c .before .before .before .before .pre) ∙ passes (rowTest (c .before .before .before .before .args .s .now)) (c .before .before .before .before .args .l .rows) (c .before .before .loop .i) (c .before .before .loop .inv) (c .if1 .left))
 

@@ -4,7 +4,7 @@ use native.Mathlib.Omega.{arith}
 use Prim.Native.Nat.{_+_, _-_}
 use Rattle.meaning.specs.Sheet.{scriptOf, sheetOf}
 use Rattle.meaning.specs.Shape.{statementUses}
-use Rattle.kinds.specs.Turns.{Passed, none-yet, one-more, fails, passes}
+use Rattle.meaning.specs.Laws.Turns.{Passed, none-yet, one-more, fails, passes}
 use Rattle.kinds.proofs.RowTests.{turn, statementTest, statements-are}
 use Rattle.kinds.proofs.statements_ok.Statement.{statement}
 use Rattle.kinds.proofs.statements_ok.Tie as tie
@@ -20,39 +20,30 @@ Inv-loop s l i₀ i = Passed (statementTest s) (l .statements) i
 abbrev μ-loop : tie.MeasureT-loop
 μ-loop s l i₀ i = l .statements - i
 
--- src/lib.rt:244:5
 loop-holds : tie.Need-loop-holds Inv-loop μ-loop
 loop-holds c = none-yet (statementTest (c .before .args .s .now)) (c .before .args .l .statements)
 
--- src/lib.rt:245:9
 add-i : tie.Need-add-i Inv-loop μ-loop
 add-i c = omega (arith, c .before .before .before .before .pre .few-statements)
 
--- src/lib.rt:246:13
 statement-row-requires : tie.Need-statement-row-requires Inv-loop μ-loop
 statement-row-requires c κs = c .before .before .before .before .pre
 
--- src/lib.rt:247:23
 statement-uses-requires : tie.Need-statement-uses-requires Inv-loop μ-loop
 statement-uses-requires c κs = c .before .before .before .before .before .pre
 
--- src/lib.rt:247:13
 row-ok-requires : tie.Need-row-ok-requires Inv-loop μ-loop
 row-ok-requires c κs = tt
 
--- src/lib.rt:248:13
 returns : tie.Need-returns Inv-loop μ-loop
 returns c = sym (statements-are (c .before .before .before .before .before .before .before .before .pre) ∙ fails (statementTest (c .before .before .before .before .before .before .before .before .args .s .now)) (c .before .before .before .before .before .before .before .before .args .l .statements) (c .before .before .before .before .before .before .loop .i) (c .before .before .before .before .if1 .taken) (turn (sheetOf (c .before .before .before .before .before .before .before .before .args .s .now)) 14 (statementUses (scriptOf (c .before .before .before .before .before .before .before .before .args .s .now) .procedureRow)) (c .before .before .before .before .before .before .loop .i + 1) (c .before .before .before .statement-row .ensures .0) (c .before .before .statement-uses .ensures) (c .before .row-ok .ensures (c .before .before .before .before .before .before .before .before .args .s .now) (c .before .before .before .before .before .before .before .before .pre))) (c .if2 .taken))
 
--- src/lib.rt:244:5
 loop-less : tie.Need-loop-less Inv-loop μ-loop
 loop-less c = omega arith
 
--- src/lib.rt:244:5
 loop-again : tie.Need-loop-again Inv-loop μ-loop
 loop-again c = one-more (statementTest (c .before .before .before .before .before .before .before .before .args .s .now)) (c .before .before .before .before .before .before .before .before .args .l .statements) (c .before .before .before .before .before .before .loop .i) (c .before .before .before .before .before .before .loop .inv) (c .before .before .before .before .if1 .taken) (turn (sheetOf (c .before .before .before .before .before .before .before .before .args .s .now)) 14 (statementUses (scriptOf (c .before .before .before .before .before .before .before .before .args .s .now) .procedureRow)) (c .before .before .before .before .before .before .loop .i + 1) (c .before .before .before .statement-row .ensures .0) (c .before .before .statement-uses .ensures) (c .before .row-ok .ensures (c .before .before .before .before .before .before .before .before .args .s .now) (c .before .before .before .before .before .before .before .before .pre))) (c .if2 .left)
 
--- src/lib.rt:239:1
 returns-2 : tie.Need-returns-2 Inv-loop μ-loop
 returns-2 c = sym (statements-are (c .before .before .before .before .pre) ∙ passes (statementTest (c .before .before .before .before .args .s .now)) (c .before .before .before .before .args .l .statements) (c .before .before .loop .i) (c .before .before .loop .inv) (c .if1 .left))
 

@@ -4,7 +4,7 @@ use native.Mathlib.Omega.{arith}
 use Prim.Native.Nat.{_+_, _-_}
 use Rattle.meaning.specs.Sheet.{sheetOf}
 use Rattle.meaning.specs.Shape.{typeUses}
-use Rattle.kinds.specs.Turns.{Passed, none-yet, one-more, fails, passes}
+use Rattle.meaning.specs.Laws.Turns.{Passed, none-yet, one-more, fails, passes}
 use Rattle.kinds.proofs.RowTests.{turn, typeTest, types-are}
 use Rattle.kinds.proofs.types_ok.Statement.{statement}
 use Rattle.kinds.proofs.types_ok.Tie as tie
@@ -20,39 +20,30 @@ Inv-loop s l i₀ i = Passed (typeTest s) (l .types) i
 abbrev μ-loop : tie.MeasureT-loop
 μ-loop s l i₀ i = l .types - i
 
--- src/lib.rt:214:5
 loop-holds : tie.Need-loop-holds Inv-loop μ-loop
 loop-holds c = none-yet (typeTest (c .before .args .s .now)) (c .before .args .l .types)
 
--- src/lib.rt:215:9
 add-i : tie.Need-add-i Inv-loop μ-loop
 add-i c = omega (arith, c .before .before .before .before .pre .few-types)
 
--- src/lib.rt:216:13
 type-row-requires : tie.Need-type-row-requires Inv-loop μ-loop
 type-row-requires c κs = c .before .before .before .before .pre
 
--- src/lib.rt:217:23
 type-uses-requires : tie.Need-type-uses-requires Inv-loop μ-loop
 type-uses-requires c κs = tt
 
--- src/lib.rt:217:13
 row-ok-requires : tie.Need-row-ok-requires Inv-loop μ-loop
 row-ok-requires c κs = tt
 
--- src/lib.rt:218:13
 returns : tie.Need-returns Inv-loop μ-loop
 returns c = sym (types-are (c .before .before .before .before .before .before .before .before .pre) ∙ fails (typeTest (c .before .before .before .before .before .before .before .before .args .s .now)) (c .before .before .before .before .before .before .before .before .args .l .types) (c .before .before .before .before .before .before .loop .i) (c .before .before .before .before .if1 .taken) (turn (sheetOf (c .before .before .before .before .before .before .before .before .args .s .now)) 8 typeUses (c .before .before .before .before .before .before .loop .i + 1) (c .before .before .before .type-row .ensures) (c .before .before .type-uses .ensures) (c .before .row-ok .ensures (c .before .before .before .before .before .before .before .before .args .s .now) (c .before .before .before .before .before .before .before .before .pre))) (c .if2 .taken))
 
--- src/lib.rt:214:5
 loop-less : tie.Need-loop-less Inv-loop μ-loop
 loop-less c = omega arith
 
--- src/lib.rt:214:5
 loop-again : tie.Need-loop-again Inv-loop μ-loop
 loop-again c = one-more (typeTest (c .before .before .before .before .before .before .before .before .args .s .now)) (c .before .before .before .before .before .before .before .before .args .l .types) (c .before .before .before .before .before .before .loop .i) (c .before .before .before .before .before .before .loop .inv) (c .before .before .before .before .if1 .taken) (turn (sheetOf (c .before .before .before .before .before .before .before .before .args .s .now)) 8 typeUses (c .before .before .before .before .before .before .loop .i + 1) (c .before .before .before .type-row .ensures) (c .before .before .type-uses .ensures) (c .before .row-ok .ensures (c .before .before .before .before .before .before .before .before .args .s .now) (c .before .before .before .before .before .before .before .before .pre))) (c .if2 .left)
 
--- src/lib.rt:209:1
 returns-2 : tie.Need-returns-2 Inv-loop μ-loop
 returns-2 c = sym (types-are (c .before .before .before .before .pre) ∙ passes (typeTest (c .before .before .before .before .args .s .now)) (c .before .before .before .before .args .l .types) (c .before .before .loop .i) (c .before .before .loop .inv) (c .if1 .left))
 

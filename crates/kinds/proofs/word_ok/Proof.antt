@@ -10,116 +10,90 @@ use Rattle.kinds.proofs.in_pool.Reads as in-pool-reads
 use Rattle.kinds.proofs.in_table.Reads as in-table-reads
 use Rattle.kinds.proofs.lower.Reads as lower-reads
 
--- src/lib.rt:172:24
 enum-told : tie.Need-enum-told
 enum-told c = search needs
 
--- src/lib.rt:173:22
 enum-told-2 : tie.Need-enum-told-2
 enum-told-2 c = search needs
 
--- src/lib.rt:174:23
 enum-told-3 : tie.Need-enum-told-3
 enum-told-3 c = search needs
 
--- src/lib.rt:175:22
 enum-told-4 : tie.Need-enum-told-4
 enum-told-4 c = search needs
 
--- src/lib.rt:175:22
 lower-requires : tie.Need-lower-requires
 lower-requires c κs = search needs
 
--- src/lib.rt:176:22
 enum-told-5 : tie.Need-enum-told-5
 enum-told-5 c = search needs
 
--- src/lib.rt:177:23
 enum-told-6 : tie.Need-enum-told-6
 enum-told-6 c = search needs
 
--- src/lib.rt:177:23
 in-table-requires : tie.Need-in-table-requires
 in-table-requires c κs = search needs
 
--- src/lib.rt:178:22
 enum-told-7 : tie.Need-enum-told-7
 enum-told-7 c = search needs
 
--- src/lib.rt:178:22
 in-table-requires-2 : tie.Need-in-table-requires-2
 in-table-requires-2 c κs = search needs
 
--- src/lib.rt:179:27
 enum-told-8 : tie.Need-enum-told-8
 enum-told-8 c = search needs
 
--- src/lib.rt:179:27
 in-table-requires-3 : tie.Need-in-table-requires-3
 in-table-requires-3 c κs = search needs
 
--- src/lib.rt:180:24
 enum-told-9 : tie.Need-enum-told-9
 enum-told-9 c = search needs
 
--- src/lib.rt:180:24
 in-table-requires-4 : tie.Need-in-table-requires-4
 in-table-requires-4 c κs = search needs
 
--- src/lib.rt:181:19
 enum-known-u : tie.Need-enum-known-u
 enum-known-u c = search needs
 
--- src/lib.rt:181:30
 in-pool-requires : tie.Need-in-pool-requires
 in-pool-requires c κs = search needs
 
--- src/lib.rt:168:1
 returns : tie.Need-returns
 unfolding wordOk
 returns c = λ s L. rw (c .enum-told .given .1)
 
--- src/lib.rt:168:1
 returns-2 : tie.Need-returns-2
 unfolding wordOk
 returns-2 c = λ s L. rw (c .enum-told2 .given .1)
 
--- src/lib.rt:168:1
 returns-3 : tie.Need-returns-3
 unfolding wordOk
 returns-3 c = λ s L. rw (c .enum-told3 .given .1)
 
--- src/lib.rt:168:1
 returns-4 : tie.Need-returns-4
 unfolding wordOk
 returns-4 c = λ s L. rw (c .before .enum-told4 .given .1) (c .lower .ensures)
 
--- src/lib.rt:168:1
 returns-5 : tie.Need-returns-5
 unfolding wordOk
 returns-5 c = λ s L. rw (c .enum-told5 .given .1)
 
--- src/lib.rt:168:1
 returns-6 : tie.Need-returns-6
 unfolding wordOk sheetOf scriptOf
 returns-6 c = λ s L. rw (c .before .enum-told6 .given .1, ← (L .queries)) (c .in-table .ensures)
 
--- src/lib.rt:168:1
 returns-7 : tie.Need-returns-7
 unfolding wordOk sheetOf scriptOf
 returns-7 c = λ s L. rw (c .before .enum-told7 .given .1, ← (L .names)) (c .in-table2 .ensures)
 
--- src/lib.rt:168:1
 returns-8 : tie.Need-returns-8
 unfolding wordOk sheetOf scriptOf
 returns-8 c = λ s L. rw (c .before .enum-told8 .given .1, ← (L .procedures)) (c .in-table3 .ensures)
 
--- src/lib.rt:168:1
 returns-9 : tie.Need-returns-9
 unfolding wordOk
 returns-9 c = λ s L. rw (c .before .enum-told9 .given .1) (c .in-table4 .ensures)
 
--- src/lib.rt:168:1
 returns-10 : tie.Need-returns-10
 unfolding wordOk sheetOf groveOf
 returns-10 c = λ s L. rw (c .before .before .u .given .1, ← (L .pool)) (c .in-pool .ensures)

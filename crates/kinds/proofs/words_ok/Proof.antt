@@ -7,27 +7,21 @@ use Rattle.kinds.proofs.words_ok.Reads as reads
 use Rattle.kinds.proofs.words_ok.Lts as lts
 use Rattle.kinds.proofs.word_ok.Reads as word-ok-reads
 
--- src/lib.rt:191:9
 word-ok-requires : tie.Need-word-ok-requires
 word-ok-requires c κs = search needs
 
--- src/lib.rt:192:9
 returns : tie.Need-returns
 returns c = λ s L. rw (← (c .before .word-ok .ensures s L), not-true (c .before .word-ok .result) (c .if1 .taken))
 
--- src/lib.rt:194:9
 word-ok-requires-2 : tie.Need-word-ok-requires-2
 word-ok-requires-2 c κs = search needs
 
--- src/lib.rt:195:9
 returns-2 : tie.Need-returns-2
 returns-2 c = λ s L. rw (← (c .before .before .before .word-ok .ensures s L), ← (c .before .word-ok2 .ensures s L), not-false (c .before .before .before .word-ok .result) (c .before .before .if1 .left), not-true (c .before .word-ok2 .result) (c .if2 .taken))
 
--- src/lib.rt:197:5
 word-ok-requires-3 : tie.Need-word-ok-requires-3
 word-ok-requires-3 c κs = search needs
 
--- src/lib.rt:185:1
 returns-3 : tie.Need-returns-3
 returns-3 c = λ s L. rw (← (c .before .before .before .before .word-ok .ensures s L), ← (c .before .before .word-ok2 .ensures s L), ← (c .word-ok3 .ensures s L), not-false (c .before .before .before .before .word-ok .result) (c .before .before .before .if1 .left), not-false (c .before .before .word-ok2 .result) (c .before .if2 .left))
 

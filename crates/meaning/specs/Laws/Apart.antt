@@ -472,6 +472,10 @@ pub data AtomKind (c : Cells) : Type 0 where
   a-label : c .kind ≡ 4 → AtomKind c
   a-name : c .kind ≡ 8 → AtomKind c
 
+-- the same of a kind alone
+abbrev pub PlaceKind : ℕ → Type 0
+PlaceKind k = (k ≡ 2) ⊎ ((k ≡ 3) ⊎ ((k ≡ 4) ⊎ (k ≡ 8)))
+
 -- the places of the model at a row are atoms' rows
 pub atom-kind : (row : ℕ → Cells) (k r a : ℕ) → has (model (λ i. typeForm (row i)) k r) a ≡ true → AtomKind (row a)
 unfolding model modelForm has

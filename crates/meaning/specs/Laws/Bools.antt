@@ -39,6 +39,10 @@ pub or-false : (a : Bool) → a || false ≡ a
 or-false true = refl
 or-false false = refl
 
+pub or-or : (a b c : Bool) → a || b || c ≡ a || (b || c)
+or-or true b c = refl
+or-or false b c = refl
+
 -- a test is passed or not, with its equation
 pub either : (a : Bool) → (a ≡ true) ⊎ (a ≡ false)
 either true = inl refl

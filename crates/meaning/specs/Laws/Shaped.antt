@@ -173,6 +173,9 @@ module _ (s : List ℕ) (e : shapely s ≡ true) where
   unfolding sheetOf
   few-rows = few (sheetOf s) limits-pass .rows
 
+  pub few-units : sheetOf s .runFuel ≤ most-fuel
+  few-units = few (sheetOf s) limits-pass .run-fuel
+
   pub few-bytes : groveOf s .pool ≤ most-pool
   unfolding sheetOf
   few-bytes = few (sheetOf s) limits-pass .pool

@@ -19,31 +19,24 @@ Inv-loop s at n top root null first behind₀ i₀ behind i = (i ≤ top) × Fal
 abbrev μ-loop : tie.MeasureT-loop
 μ-loop s at n top root null first behind₀ i₀ behind i = i
 
--- src/lib.rt:155:5
 loop-holds : tie.Need-loop-holds Inv-loop μ-loop
 loop-holds c = (omega arith, falling-none (row3 (c .before .args .s .now) (c .before .args .at) (c .before .args .n)) (c .before .args .root .now) (c .before .args .behind .now) (c .before .args .top) (c .before .pre .1 .1 .1 .1 .1))
 
--- src/lib.rt:156:9
 end-requires : tie.Need-end-requires Inv-loop μ-loop
 end-requires c κs = (c .before .before .loop .inv .1 .size, omega (arith, c .before .before .loop .inv .0, few-rows (c .before .before .before .before .pre .0) (c .before .before .before .before .pre .1 .1 .0)))
 
--- src/lib.rt:157:9
 fall-requires : tie.Need-fall-requires Inv-loop μ-loop
 fall-requires c κs = ((c .before .before .before .before .before .before .pre .0), ((c .before .before .before .before .before .before .pre .1 .0), ((omega arith, omega (arith, c .before .before .before .before .loop .inv .0, c .before .before .before .before .before .before .pre .1 .1 .0)), (c .before .before .before .before .before .before .pre .1 .1 .1 .0, ready (c .before .before .before .before .before .before .pre .0) (c .before .before .before .before .before .before .args .root .now) (c .before .before .before .before .before .before .args .top) (c .before .before .before .before .before .before .pre .1 .1 .0) (c .before .before .before .before .before .before .pre .1 .1 .1 .1 .0) (c .before .before .before .before .loop .i) (omega arith) (c .before .before .before .before .loop .inv .0) (c .before .before .before .before .loop .inv .1) (c .before .end .ensures)))))
 
--- src/lib.rt:158:9
 sub-i : tie.Need-sub-i Inv-loop μ-loop
 sub-i c = search needs
 
--- src/lib.rt:155:5
 loop-less : tie.Need-loop-less Inv-loop μ-loop
 loop-less c = search needs
 
--- src/lib.rt:155:5
 loop-again : tie.Need-loop-again Inv-loop μ-loop
 loop-again c = (omega arith, falling-more (c .before .before .before .before .before .before .before .pre .0) (c .before .before .before .before .before .before .before .args .root .now) (c .before .before .before .before .before .before .before .args .top) (c .before .before .before .before .before .before .before .pre .1 .1 .0) (c .before .before .before .before .before .before .before .pre .1 .1 .1 .1 .0) (c .before .before .before .before .before .loop .i) (omega arith) (c .before .before .before .before .before .loop .inv .0) (c .before .before .before .before .before .loop .inv .1) (c .before .before .end .ensures) (c .fall .ensures))
 
--- src/lib.rt:146:1
 returns : tie.Need-returns Inv-loop μ-loop
 returns c = wires-by (c .before .before .before .pre .0) (c .before .before .before .args .root .now) (c .before .before .before .args .top) (c .before .before .before .pre .1 .1 .0) (c .before .before .before .pre .1 .1 .1 .1 .0) (omega arith) (c .before .loop .inv .1)
 

@@ -9,19 +9,15 @@ use Rattle.places.proofs.end.Reads as reads
 use Rattle.places.proofs.end.Lts as lts
 use Rattle.bits.proofs.add.Reads as add-reads
 
--- src/lib.rt:140:8
 element-copy-out-if1 : tie.Need-element-copy-out-if1
 element-copy-out-if1 c = search needs
 
--- src/lib.rt:141:9
 add-requires : tie.Need-add-requires
 add-requires c κs = search needs
 
--- src/lib.rt:135:1
 returns : tie.Need-returns
 returns c = ended-root (eq-eqb (getD (c .before .before .before .before .args .root .now) (c .before .before .before .before .args .i) 0) 1 (c .before .before .if1 .taken)) (c .add .ensures)
 
--- src/lib.rt:135:1
 returns-2 : tie.Need-returns-2
 returns-2 c = ended-other (ne-eqb (getD (c .before .before .args .root .now) (c .before .before .args .i) 0) 1 (c .if1 .left))
 

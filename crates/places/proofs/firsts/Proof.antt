@@ -20,39 +20,30 @@ Inv-loop s at n null₀ first₀ i₀ null first i = (1 ≤ i) × (i ≤ n + 1) 
 abbrev μ-loop : tie.MeasureT-loop
 μ-loop s at n null₀ first₀ i₀ null first i = n + 1 - i
 
--- src/lib.rt:85:5
 loop-holds : tie.Need-loop-holds Inv-loop μ-loop
 loop-holds c = (omega arith, omega arith, nulls-none (row3 (c .before .args .s .now) (c .before .args .at) (c .before .args .n)) (c .before .args .null .now) (c .before .pre .1 .1 .0), firsts-none (row3 (c .before .args .s .now) (c .before .args .at) (c .before .args .n)) (c .before .args .first .now) (c .before .pre .1 .1 .1))
 
--- src/lib.rt:86:9
 begin-requires : tie.Need-begin-requires Inv-loop μ-loop
 begin-requires c κs = ((c .before .before .before .before .before .pre .0), ((c .before .before .before .before .before .pre .1 .0), ((c .before .before .before .loop .inv .0, c .before .before .loop-test .taken), (c .before .before .before .loop .inv .2, c .before .before .before .loop .inv .3))))
 
--- src/lib.rt:87:33
 may-be-empty-requires : tie.Need-may-be-empty-requires Inv-loop μ-loop
 may-be-empty-requires c κs = ((c .before .before .before .before .before .before .before .pre .0), ((c .before .before .before .before .before .before .before .pre .1 .0), ((c .before .before .before .before .before .loop .inv .0, c .before .before .before .before .loop-test .taken), c .before .before .before .before .before .loop .inv .2)))
 
--- src/lib.rt:87:19
 digit-requires : tie.Need-digit-requires Inv-loop μ-loop
 digit-requires c κs = search needs
 
--- src/lib.rt:87:9
 element-write-null : tie.Need-element-write-null Inv-loop μ-loop
 element-write-null c = omega (arith, few-rows (c .before .before .before .before .before .before .before .before .before .pre .0) (c .before .before .before .before .before .before .loop-test .taken))
 
--- src/lib.rt:88:9
 add-i : tie.Need-add-i Inv-loop μ-loop
 add-i c = omega (arith, few-rows (c .before .before .before .before .before .before .before .before .before .pre .0) (c .before .before .before .before .before .before .loop-test .taken))
 
--- src/lib.rt:85:5
 loop-less : tie.Need-loop-less Inv-loop μ-loop
 loop-less c = search needs
 
--- src/lib.rt:85:5
 loop-again : tie.Need-loop-again Inv-loop μ-loop
 loop-again c = (omega arith, omega arith, nulls-more (row3 (c .before .before .before .before .before .before .before .before .before .args .s .now) (c .before .before .before .before .before .before .before .before .before .args .at) (c .before .before .before .before .before .before .before .before .before .args .n)) (c .before .before .before .before .before .before .before .loop .null) (c .before .before .before .before .before .before .before .loop .i) (c .digit .result) (c .before .before .before .before .before .before .before .loop .inv .2) (omega (arith, few-rows (c .before .before .before .before .before .before .before .before .before .pre .0) (c .before .before .before .before .before .before .loop-test .taken))) (c .digit .ensures ∙ c .before .may-be-empty .ensures), c .before .before .before .begin .ensures)
 
--- src/lib.rt:77:1
 returns : tie.Need-returns Inv-loop μ-loop
 returns c = tables (c .before .before .before .pre .0) (c .loop-test .left) (c .before .loop .inv .2) (c .before .loop .inv .3)
 

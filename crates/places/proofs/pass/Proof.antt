@@ -11,23 +11,18 @@ use Rattle.places.proofs.pass.Lts as lts
 use Rattle.bits.proofs.unite.Reads as unite-reads
 use Rattle.bits.proofs.unite_in.Reads as unite-in-reads
 
--- src/lib.rt:98:5
 unite-requires : tie.Need-unite-requires
 unite-requires c κs = search needs
 
--- src/lib.rt:99:8
 element-copy-out-if1 : tie.Need-element-copy-out-if1
 element-copy-out-if1 c = search needs
 
--- src/lib.rt:100:9
 unite-in-requires : tie.Need-unite-in-requires
 unite-in-requires c κs = search needs
 
--- src/lib.rt:93:1
 returns : tie.Need-returns
 returns c = passed-both (λ z. omega (arith, z, c .before .before .before .before .before .before .pre .1 .0)) (eq-eqb (getD (c .before .before .before .before .before .before .args .null .now) (c .before .before .before .before .before .before .args .q) 0) 1 (c .before .before .if1 .taken)) (c .before .before .before .before .unite .ensures) (c .unite-in .ensures)
 
--- src/lib.rt:93:1
 returns-2 : tie.Need-returns-2
 returns-2 c = passed-one (λ z. omega (arith, z, c .before .before .before .before .pre .1 .0)) (ne-eqb (getD (c .before .before .before .before .args .null .now) (c .before .before .before .before .args .q) 0) 1 (c .if1 .left)) (c .before .before .unite .ensures)
 

@@ -16,39 +16,30 @@ use Rattle.rows.proofs.join.Reads as join-reads
 use Rattle.rows.proofs.trees.Reads as trees-reads
 use Rattle.walk.proofs.Purse.pay.Reads as pay-reads
 
--- src/lib.rt:219:9
 trees-requires : tie.Need-trees-requires
 trees-requires c κs = readable (c .before .before .args .a) (c .before .before .pre .0) (c .before .before .pre .1)
 
--- src/lib.rt:220:11
 pay-requires : tie.Need-pay-requires
 pay-requires c κs = search needs
 
--- src/lib.rt:221:36
 enum-told : tie.Need-enum-told
 enum-told c = search needs
 
--- src/lib.rt:222:21
 enum-known-rest : tie.Need-enum-known-rest
 enum-known-rest c = search needs
 
--- src/lib.rt:223:17
 join-requires : tie.Need-join-requires
 join-requires c κs = front-asks _ (c .before .before .before .before .before .before .before .before .pre .0) (c .before .before .before .before .before .before .before .before .pre .1) (c .before .before .before .before .before .before .before .before .pre .2) (c .before .before .before .before .before .trees .ensures) (paid-left (c .before .before .rest .given .1) (c .before .before .before .before .pay .ensures))
 
--- src/lib.rt:215:1
 same-length : tie.Need-same-length
 same-length c = search needs
 
--- src/lib.rt:215:1
 returns : tie.Need-returns
 returns c = λ byte. record { by = stop-pay (count (forestAt byte (lentRow (c .before .before .before .before .before .before .args .rows .now)) (c .before .before .before .before .before .before .args .a))) (ret _) (c .before .before .before .before .before .before .args .purse .left) (omega (arith, paid-fuel (c .enum-told .given .1) (c .before .before .pay .ensures), c .before .before .before .trees .ensures byte)) }
 
--- src/lib.rt:215:1
 same-length-2 : tie.Need-same-length-2
 same-length-2 c = search needs
 
--- src/lib.rt:215:1
 returns-2 : tie.Need-returns-2
 returns-2 c = λ byte. record { by = wrote-done byte _ (c .before .before .join .ensures byte) (c .before .before .before .before .before .before .before .before .trees .ensures byte) (paid-left (c .before .before .before .before .before .rest .given .1) (c .before .before .before .before .before .before .before .pay .ensures)) }
 

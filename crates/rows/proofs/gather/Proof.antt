@@ -17,31 +17,24 @@ Inv-loop rows₀ used link at₀ root₀ n₀ rows at root n = (j : GatherAsks r
 abbrev μ-loop : tie.MeasureT-loop
 μ-loop rows₀ used link at₀ root₀ n₀ rows at root n = at
 
--- src/lib.rt:161:5
 loop-holds : tie.Need-loop-holds Inv-loop μ-loop
 loop-holds c = (c .before .pre, gather-start (c .before .pre))
 
--- src/lib.rt:162:13
 row-requires : tie.Need-row-requires Inv-loop μ-loop
 row-requires c κs = (omega arith, omega (arith, c .before .before .loop .inv .1 .among, c .before .before .before .before .pre .small))
 
--- src/lib.rt:163:13
 join-requires : tie.Need-join-requires Inv-loop μ-loop
 join-requires c κs = gather-asks (c .before .before .before .before .loop .inv .0) (c .before .before .before .before .loop .inv .1) (cellsOf (c .before .row .result)) (omega arith) (c .before .row .ensures .0)
 
--- src/lib.rt:161:5
 loop-less : tie.Need-loop-less Inv-loop μ-loop
 loop-less c = gather-next (c .before .before .before .before .before .before .before .loop .inv .0) (c .before .before .before .before .before .before .before .loop .inv .1) (cellsOf (c .before .before .before .before .row .result)) (omega arith) (c .before .before .before .before .row .ensures .0)
 
--- src/lib.rt:161:5
 loop-again : tie.Need-loop-again Inv-loop μ-loop
 loop-again c = (c .before .before .before .before .before .before .before .loop .inv .0, gather-more (c .before .before .before .before .before .before .before .loop .inv .0) (c .before .before .before .before .before .before .before .loop .inv .1) (cellsOf (c .before .before .before .before .row .result)) (omega arith) (c .before .before .before .before .row .ensures .0) (c .before .before .join .kept .0) (c .before .before .join .ensures))
 
--- src/lib.rt:154:1
 same-length : tie.Need-same-length Inv-loop μ-loop
 same-length c = c .before .loop .inv .1 .long
 
--- src/lib.rt:154:1
 returns : tie.Need-returns Inv-loop μ-loop
 returns c = gather-done (c .before .loop .inv .0) (c .before .loop .inv .1) (omega arith)
 

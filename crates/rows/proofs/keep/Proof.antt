@@ -16,39 +16,30 @@ use Rattle.rows.proofs.push.Reads as push-reads
 use Rattle.rows.proofs.trees.Reads as trees-reads
 use Rattle.walk.proofs.Purse.pay.Reads as pay-reads
 
--- src/lib.rt:234:9
 trees-requires : tie.Need-trees-requires
 trees-requires c κs = readable (c .before .before .args .got) (c .before .before .pre .0) (c .before .before .pre .1)
 
--- src/lib.rt:235:11
 pay-requires : tie.Need-pay-requires
 pay-requires c κs = search needs
 
--- src/lib.rt:236:36
 enum-told : tie.Need-enum-told
 enum-told c = search needs
 
--- src/lib.rt:237:21
 enum-known-rest : tie.Need-enum-known-rest
 enum-known-rest c = search needs
 
--- src/lib.rt:238:17
 push-requires : tie.Need-push-requires
 push-requires c κs = (omega (arith, c .before .before .before .before .before .before .before .before .pre .0 .room), omega (arith, c .before .before .before .before .before .before .before .before .pre .0 .small), keep-words (c .before .before .before .before .before .before .before .before .args .got) (c .before .before .before .before .before .before .before .before .args .link) (c .before .before .before .before .before .before .before .before .pre .0) (c .before .before .before .before .before .before .before .before .pre .1) (c .before .before .before .before .before .before .before .before .pre .2))
 
--- src/lib.rt:230:1
 same-length : tie.Need-same-length
 same-length c = search needs
 
--- src/lib.rt:230:1
 returns : tie.Need-returns
 returns c = λ byte ls. record { by = stop-pay (count (forestAt byte (lentRow (c .before .before .before .before .before .before .args .rows .now)) (c .before .before .before .before .before .before .args .got))) (ret _) (c .before .before .before .before .before .before .args .purse .left) (omega (arith, paid-fuel (c .enum-told .given .1) (c .before .before .pay .ensures), c .before .before .before .trees .ensures byte)) }
 
--- src/lib.rt:230:1
 same-length-2 : tie.Need-same-length-2
 same-length-2 c = search needs
 
--- src/lib.rt:230:1
 returns-2 : tie.Need-returns-2
 returns-2 c = λ byte ls. record { by = keep-done _ (c .before .before .before .before .before .before .before .before .before .before .before .pre .0) (c .before .before .before .before .before .before .before .before .before .before .before .pre .1) (c .before .before .before .before .before .before .before .before .before .before .before .pre .2) (c .before .before .before .before .before .before .before .before .trees .ensures) (paid-left (c .before .before .before .before .before .rest .given .1) (c .before .before .before .before .before .before .before .pay .ensures)) (c .before .before .push .ensures .1) (c .before .before .push .ensures .0) byte ls }
 

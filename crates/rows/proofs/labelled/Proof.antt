@@ -10,11 +10,9 @@ use Rattle.rows.proofs.labelled.Tie as tie
 use Rattle.rows.proofs.labelled.Reads as reads
 use Rattle.rows.proofs.labelled.Lts as lts
 
--- src/lib.rt:89:1
 returns : tie.Need-returns
 returns c = judged-no (cellsOf (c .before .before .args .t)) (c .before .before .args .l) (in-table 3 (c .before .before .args .t .kind) (omega arith) (omega arith))
 
--- src/lib.rt:89:1
 returns-2 : tie.Need-returns-2
 returns-2 c = judged-by (cellsOf (c .before .before .args .t)) (c .before .before .args .l) (out-three (c .before .before .args .t .kind) (λ h i. ⊎-elim (λ w. omega (arith, w .keys1)) (λ w. omega (arith, w .1 .left)) (c .before .match .came)))
 

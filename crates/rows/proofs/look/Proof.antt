@@ -13,37 +13,29 @@ use Rattle.rows.proofs.look.Reads as reads
 use Rattle.rows.proofs.look.Lts as lts
 use Rattle.rows.proofs.row.Reads as row-reads
 
--- src/lib.rt:185:9
 returns : tie.Need-returns
 returns c = λ byte. record { by = see-none byte (lentRow (c .before .before .args .rows .now)) (c .before .before .args .root) (c .if1 .taken) }
 
--- src/lib.rt:187:9
 row-requires : tie.Need-row-requires
 row-requires c κs = (omega arith, c .before .before .pre .small)
 
--- src/lib.rt:189:9
 returns-2 : tie.Need-returns-2
 returns-2 c = λ byte. record { by = see-many byte (lentRow (c .before .before .before .before .before .args .rows .now)) (c .before .before .before .before .before .args .root) (cellsOf (c .before .before .row .result)) (c .before .before .before .before .before .pre .low) (omega arith) (c .before .before .row .ensures .0) (c .if2 .taken) }
 
--- src/lib.rt:180:1
 returns-3 : tie.Need-returns-3
 returns-3 c = λ byte. record { by = record { is = see-text byte (lentRow (c .before .before .before .before .before .before .args .rows .now)) (c .before .before .before .before .before .before .args .root) (cellsOf (c .before .before .before .row .result)) (c .before .before .before .before .before .before .pre .low) (omega (arith, c .before .before .before .before .if1 .left)) (c .before .before .before .row .ensures .0) (c .before .if2 .left) (c .match .keys1); offset = c .before .before .before .row .ensures .1 .p; size = c .before .before .before .row .ensures .1 .q } }
 
--- src/lib.rt:180:1
 returns-4 : tie.Need-returns-4
 returns-4 c = λ byte. record { by = see-false byte (lentRow (c .before .before .before .before .before .before .args .rows .now)) (c .before .before .before .before .before .before .args .root) (cellsOf (c .before .before .before .row .result)) (c .before .before .before .before .before .before .pre .low) (omega (arith, c .before .before .before .before .if1 .left)) (c .before .before .before .row .ensures .0) (c .before .if2 .left) (c .match .keys2) }
 
--- src/lib.rt:180:1
 returns-5 : tie.Need-returns-5
 returns-5 c = λ byte. record { by = see-true byte (lentRow (c .before .before .before .before .before .before .args .rows .now)) (c .before .before .before .before .before .before .args .root) (cellsOf (c .before .before .before .row .result)) (c .before .before .before .before .before .before .pre .low) (omega (arith, c .before .before .before .before .if1 .left)) (c .before .before .before .row .ensures .0) (c .before .if2 .left) (c .match .keys3) }
 
--- src/lib.rt:180:1
 returns-6 : tie.Need-returns-6
 returns-6 c = λ byte.
     let kind = out-three (c .before .before .before .row .result .kind) (λ h i. omega (arith, c .match .keys4)) in
     record { by = record { is = see-node byte (lentRow (c .before .before .before .before .before .before .args .rows .now)) (c .before .before .before .before .before .before .args .root) (cellsOf (c .before .before .before .row .result)) (c .before .before .before .before .before .before .pre .low) (omega (arith, c .before .before .before .before .if1 .left)) (c .before .before .before .row .ensures .0) (c .before .if2 .left) kind; label = c .before .before .before .row .ensures .1 .p; inside = see-child byte (lentRow (c .before .before .before .before .before .before .args .rows .now)) (c .before .before .before .before .before .before .args .root) (cellsOf (c .before .before .before .row .result)) (c .before .before .before .before .before .before .pre .low) (omega (arith, c .before .before .before .before .if1 .left)) (c .before .before .before .row .ensures .0) (c .before .if2 .left) kind } }
 
--- src/lib.rt:180:1
 returns-7 : tie.Need-returns-7
 returns-7 c = λ byte.
     let kind = out-three (c .before .before .before .row .result .kind) (λ h i. omega (arith, c .match .rest .0 .0 .0 .1, c .match .rest .0 .0 .1, c .match .rest .0 .1)) in

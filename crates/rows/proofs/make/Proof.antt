@@ -12,31 +12,24 @@ use Rattle.rows.proofs.make.Lts as lts
 use Rattle.rows.proofs.push.Reads as push-reads
 use Rattle.walk.proofs.Purse.take.Reads as take-reads
 
--- src/lib.rt:205:11
 take-requires : tie.Need-take-requires
 take-requires c κs = search needs
 
--- src/lib.rt:206:36
 enum-told : tie.Need-enum-told
 enum-told c = search needs
 
--- src/lib.rt:207:21
 enum-known-rest : tie.Need-enum-known-rest
 enum-known-rest c = search needs
 
--- src/lib.rt:208:17
 push-requires : tie.Need-push-requires
 push-requires c κs = (omega (arith, paid-left (c .before .before .rest .given .1) (c .before .before .before .before .take .ensures), c .before .before .before .before .before .before .pre .roomy .room), omega (arith, c .before .before .before .before .before .before .pre .roomy .small), make-words (c .before .before .before .before .before .before .pre))
 
--- src/lib.rt:201:1
 returns : tie.Need-returns
 returns c = λ byte. record { by = stop-pay 1 (ret _) (c .before .before .before .before .args .purse .left) (paid-fuel (c .enum-told .given .1) (c .before .before .take .ensures)) }
 
--- src/lib.rt:201:1
 same-length : tie.Need-same-length
 same-length c = search needs
 
--- src/lib.rt:201:1
 returns-2 : tie.Need-returns-2
 returns-2 c = λ byte. record { by = make-done (c .before .before .before .before .before .before .before .before .before .pre) _ (paid-left (c .before .before .before .before .before .rest .given .1) (c .before .before .before .before .before .before .before .take .ensures)) (c .before .before .push .ensures .1) (c .before .before .push .ensures .0) byte }
 

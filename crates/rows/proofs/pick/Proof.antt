@@ -20,79 +20,60 @@ Inv-loop rows₀ used l root at₀ k top to₀ rows at to = Picking rows₀ rows
 abbrev μ-loop : tie.MeasureT-loop
 μ-loop rows₀ used l root at₀ k top to₀ rows at to = to
 
--- src/lib.rt:135:9
 seek-requires : tie.Need-seek-requires Inv-loop μ-loop
 seek-requires c κs = record { low = λ r i j. c .before .before .pre .low r i (omega (arith, c .before .before .pre .first)); small = omega (arith, c .before .before .pre .first, c .before .before .pre .small) }
 
--- src/lib.rt:137:9
 same-length : tie.Need-same-length Inv-loop μ-loop
 same-length c = refl
 
--- src/lib.rt:137:9
 returns : tie.Need-returns Inv-loop μ-loop
 returns c = λ byte. pick-none byte (c .before .before .before .before .pre) (c .before .seek .ensures) (c .if1 .taken)
 
--- src/lib.rt:139:9
 picks-requires : tie.Need-picks-requires Inv-loop μ-loop
 picks-requires c κs = record { low = λ r i j. c .before .before .before .before .before .pre .low r i (omega (arith, c .before .before .before .before .before .pre .first)); small = omega (arith, c .before .before .before .before .before .pre .first, c .before .before .before .before .before .pre .small) }
 
--- src/lib.rt:140:15
 add-top : tie.Need-add-top Inv-loop μ-loop
 add-top c = omega (arith, c .before .before .before .before .before .before .pre .small, c .picks .ensures (c .before .before .before .before .before .before .pre .byte))
 
--- src/lib.rt:141:18
 sub-to : tie.Need-sub-to Inv-loop μ-loop
 sub-to c = omega (arith, c .before .before .before .seek .ensures .down, c .before .before .before .before .before .before .pre .first, c .before .before .if1 .left)
 
--- src/lib.rt:142:5
 loop-holds : tie.Need-loop-holds Inv-loop μ-loop
 loop-holds c = pick-start (c .before .before .before .before .before .before .pre .low) (c .before .before .before .before .before .before .pre .first) (c .before .before .before .before .before .before .args .used + c .picks .result) (λ byte. omega (arith, c .picks .ensures byte)) (c .before .before .before .seek .ensures) (omega (arith, c .before .before .if1 .left))
 
--- src/lib.rt:143:13
 row-requires : tie.Need-row-requires Inv-loop μ-loop
 row-requires c κs = (c .before .before .loop .inv .some, omega (arith, c .before .before .loop .inv .within, c .before .before .before .before .before .before .before .before .before .pre .small))
 
--- src/lib.rt:144:24
 cast-push : tie.Need-cast-push Inv-loop μ-loop
 cast-push c = search needs
 
--- src/lib.rt:144:9
 push-requires : tie.Need-push-requires Inv-loop μ-loop
 push-requires c κs = (omega (arith, c .before .before .before .before .before .loop .inv .copy (c .before .before .before .before .before .before .before .before .before .before .before .before .pre .byte) .below, c .before .before .before .before .before .loop .inv .long, c .before .before .before .before .before .before .before .before .before .before .before .before .pre .room, c .before .before .before .before .before .before .picks .ensures (c .before .before .before .before .before .before .before .before .before .before .before .before .pre .byte)), omega (arith, c .before .before .before .before .before .loop .inv .copy (c .before .before .before .before .before .before .before .before .before .before .before .before .pre .byte) .below, c .before .before .before .before .before .before .before .before .before .before .before .before .pre .small, c .before .before .before .before .before .before .picks .ensures (c .before .before .before .before .before .before .before .before .before .before .before .before .pre .byte)), record { kind = c .before .before .row .ensures .1 .kind; p = c .before .before .row .ensures .1 .p; q = c .before .before .row .ensures .1 .q; r = omega (arith, c .before .before .before .before .before .loop .inv .copy (c .before .before .before .before .before .before .before .before .before .before .before .before .pre .byte) .below, c .before .before .before .before .before .before .before .before .before .before .before .before .pre .small, c .before .before .before .before .before .before .picks .ensures (c .before .before .before .before .before .before .before .before .before .before .before .before .pre .byte)) })
 
--- src/lib.rt:145:9
 seek-requires-2 : tie.Need-seek-requires-2 Inv-loop μ-loop
 seek-requires-2 c κs = pick-readable (c .before .before .before .before .before .before .before .before .before .before .before .before .before .before .before .before .pre .low) (c .before .before .before .before .before .before .before .before .before .before .before .before .before .before .before .before .pre .first) (c .before .before .before .before .before .before .before .before .before .loop .inv) (cellsOf (c .before .before .before .before .before .before .row .result)) (c .before .before .before .before .before .before .row .ensures .0) (omega (arith, c .before .before .before .before .before .before .before .before .before .before .before .before .before .before .before .before .pre .small)) (c .before .before .before .before .before .before .before .before .loop-test .taken) (c .before .before .before .push .ensures .1)
 
--- src/lib.rt:146:9
 sub-to-2 : tie.Need-sub-to-2 Inv-loop μ-loop
 sub-to-2 c = omega arith
 
--- src/lib.rt:142:5
 loop-less : tie.Need-loop-less Inv-loop μ-loop
 loop-less c = omega arith
 
--- src/lib.rt:142:5
 loop-again : tie.Need-loop-again Inv-loop μ-loop
 loop-again c = pick-more (c .before .before .before .before .before .before .before .before .before .before .before .before .before .before .before .before .before .pre .low) (c .before .before .before .before .before .before .before .before .before .before .before .before .before .before .before .before .before .pre .first) (c .before .before .before .before .before .before .before .before .before .before .loop .inv) (cellsOf (c .before .before .before .before .before .before .before .row .result)) (c .before .before .before .before .before .before .before .row .ensures .0) (omega arith) (c .before .before .before .before .push .kept .0) (c .before .before .before .before .push .ensures .1) (c .seek2 .ensures)
 
--- src/lib.rt:148:9
 row-requires-2 : tie.Need-row-requires-2 Inv-loop μ-loop
 row-requires-2 c κs = (c .before .before .loop .inv .some, omega (arith, c .before .before .loop .inv .within, c .before .before .before .before .before .before .before .before .before .pre .small))
 
--- src/lib.rt:149:22
 cast-push-2 : tie.Need-cast-push-2 Inv-loop μ-loop
 cast-push-2 c = search needs
 
--- src/lib.rt:149:5
 push-requires-2 : tie.Need-push-requires-2 Inv-loop μ-loop
 push-requires-2 c κs = (omega (arith, c .before .before .before .before .before .loop .inv .copy (c .before .before .before .before .before .before .before .before .before .before .before .before .pre .byte) .floor, c .before .before .before .before .before .loop .inv .copy (c .before .before .before .before .before .before .before .before .before .before .before .before .pre .byte) .below, c .before .before .before .before .before .loop .inv .long, c .before .before .before .before .before .before .before .before .before .before .before .before .pre .room, c .before .before .before .before .before .before .picks .ensures (c .before .before .before .before .before .before .before .before .before .before .before .before .pre .byte)), omega (arith, c .before .before .before .before .before .before .before .before .before .before .before .before .pre .small), record { kind = c .before .before .row2 .ensures .1 .kind; p = c .before .before .row2 .ensures .1 .p; q = c .before .before .row2 .ensures .1 .q; r = omega arith })
 
--- src/lib.rt:131:1
 same-length-2 : tie.Need-same-length-2 Inv-loop μ-loop
 same-length-2 c = c .before .before .push2 .kept .0 ∙ c .before .before .before .before .before .before .before .before .loop .inv .long
 
--- src/lib.rt:131:1
 returns-2 : tie.Need-returns-2 Inv-loop μ-loop
 returns-2 c = pick-done (c .before .before .before .before .before .before .before .before .before .before .before .before .before .before .before .pre .low) (c .before .before .before .before .before .before .before .before .before .before .before .before .before .before .before .pre .first) (c .before .before .before .before .before .before .before .before .loop .inv) (cellsOf (c .before .before .before .before .before .row2 .result)) (c .before .before .before .before .before .row2 .ensures .0) (λ h. omega arith) (λ byte. omega (arith, c .before .before .before .before .before .before .before .before .before .picks .ensures byte)) (c .before .before .push2 .ensures .1)
 

@@ -17,39 +17,30 @@ use Rattle.rows.proofs.pick.Reads as pick-reads
 use Rattle.rows.proofs.picks.Reads as picks-reads
 use Rattle.walk.proofs.Purse.pay.Reads as pay-reads
 
--- src/lib.rt:249:9
 picks-requires : tie.Need-picks-requires
 picks-requires c κs = readable (c .before .before .args .root) (c .before .before .pre .0) (c .before .before .pre .1)
 
--- src/lib.rt:250:11
 pay-requires : tie.Need-pay-requires
 pay-requires c κs = search needs
 
--- src/lib.rt:251:36
 enum-told : tie.Need-enum-told
 enum-told c = search needs
 
--- src/lib.rt:252:21
 enum-known-rest : tie.Need-enum-known-rest
 enum-known-rest c = search needs
 
--- src/lib.rt:253:17
 pick-requires : tie.Need-pick-requires
 pick-requires c κs = picked-asks _ (c .before .before .before .before .before .before .before .before .pre .0) (c .before .before .before .before .before .before .before .before .pre .1) (c .before .before .before .before .before .picks .ensures) (paid-left (c .before .before .rest .given .1) (c .before .before .before .before .pay .ensures))
 
--- src/lib.rt:245:1
 same-length : tie.Need-same-length
 same-length c = search needs
 
--- src/lib.rt:245:1
 returns : tie.Need-returns
 returns c = λ byte. record { by = stop-pay (count (kept (c .before .before .before .before .before .before .args .label) (forestAt byte (lentRow (c .before .before .before .before .before .before .args .rows .now)) (c .before .before .before .before .before .before .args .root)))) (ret _) (c .before .before .before .before .before .before .args .purse .left) (omega (arith, paid-fuel (c .enum-told .given .1) (c .before .before .pay .ensures), c .before .before .before .picks .ensures byte)) }
 
--- src/lib.rt:245:1
 same-length-2 : tie.Need-same-length-2
 same-length-2 c = search needs
 
--- src/lib.rt:245:1
 returns-2 : tie.Need-returns-2
 returns-2 c = λ byte. record { by = wrote-done byte _ (c .before .before .pick .ensures byte) (c .before .before .before .before .before .before .before .before .picks .ensures byte) (paid-left (c .before .before .before .before .before .rest .given .1) (c .before .before .before .before .before .before .before .pay .ensures)) }
 

@@ -23,33 +23,26 @@ Inv-loop rows l root n₀ at₀ n at = (n + at ≤ root) × ((byte : ℕ → ℕ
 abbrev μ-loop : tie.MeasureT-loop
 μ-loop rows l root n₀ at₀ n at = at
 
--- src/lib.rt:121:9
 seek-requires : tie.Need-seek-requires Inv-loop μ-loop
 seek-requires c κs = c .before .pre
 
--- src/lib.rt:122:5
 loop-holds : tie.Need-loop-holds Inv-loop μ-loop
 loop-holds c = (omega (arith, c .seek .ensures .down), λ byte. omega (arith, ap count (c .seek .ensures .value byte)), c .seek .ensures .found)
 
--- src/lib.rt:123:9
 add-n : tie.Need-add-n Inv-loop μ-loop
 add-n c = omega (arith, c .before .loop .inv .0, c .before .before .before .before .pre .small)
 
--- src/lib.rt:124:13
 row-requires : tie.Need-row-requires Inv-loop μ-loop
 row-requires c κs = (omega arith, omega (arith, c .before .loop .inv .0, c .before .before .before .before .pre .small))
 
--- src/lib.rt:125:9
 seek-requires-2 : tie.Need-seek-requires-2 Inv-loop μ-loop
 seek-requires-2 c κs = let next = read-next (lentRow (c .before .before .before .before .before .args .rows .now)) (c .before .before .before .before .before .args .root) (c .before .before .loop .at) (cellsOf (c .row .result)) (c .before .before .before .before .before .pre .low) (omega arith) (omega (arith, c .before .before .loop .inv .0)) (c .row .ensures .0) in
     let all = c .before .before .loop .inv .0 in
     record { low = λ r i j. c .before .before .before .before .before .pre .low r i (omega arith); small = omega (arith, c .before .before .before .before .before .pre .small) }
 
--- src/lib.rt:122:5
 loop-less : tie.Need-loop-less Inv-loop μ-loop
 loop-less c = omega (arith, c .seek2 .ensures .down, read-next (lentRow (c .before .before .before .before .before .before .args .rows .now)) (c .before .before .before .before .before .before .args .root) (c .before .before .before .loop .at) (cellsOf (c .before .row .result)) (c .before .before .before .before .before .before .pre .low) (omega arith) (omega (arith, c .before .before .before .loop .inv .0)) (c .before .row .ensures .0))
 
--- src/lib.rt:122:5
 loop-again : tie.Need-loop-again Inv-loop μ-loop
 loop-again c = let next = read-next (lentRow (c .before .before .before .before .before .before .args .rows .now)) (c .before .before .before .before .before .before .args .root) (c .before .before .before .loop .at) (cellsOf (c .before .row .result)) (c .before .before .before .before .before .before .pre .low) (omega arith) (omega (arith, c .before .before .before .loop .inv .0)) (c .before .row .ensures .0) in (
   omega (arith, c .before .before .before .loop .inv .0, c .seek2 .ensures .down),
@@ -57,7 +50,6 @@ loop-again c = let next = read-next (lentRow (c .before .before .before .before 
   c .seek2 .ensures .found,
 )
 
--- src/lib.rt:116:1
 returns : tie.Need-returns Inv-loop μ-loop
 returns c = λ byte. omega (arith, c .before .loop .inv .1 byte, count-kept-none byte (lentRow (c .before .before .before .before .args .rows .now)) (c .before .before .before .before .args .l) (c .before .loop .at) (omega arith))
 

@@ -8,47 +8,36 @@ use Rattle.rows.proofs.push.Reads as reads
 use Rattle.rows.proofs.push.Lts as lts
 use Rattle.words.proofs.put_word.Reads as put-word-reads
 
--- src/lib.rt:37:13
 mul-i : tie.Need-mul-i
 mul-i c = search needs
 
--- src/lib.rt:38:5
 put-word-requires : tie.Need-put-word-requires
 put-word-requires c κs = search needs
 
--- src/lib.rt:39:20
 add-put-word : tie.Need-add-put-word
 add-put-word c = search needs
 
--- src/lib.rt:39:5
 put-word-requires-2 : tie.Need-put-word-requires-2
 put-word-requires-2 c κs = search needs
 
--- src/lib.rt:40:20
 add-put-word-2 : tie.Need-add-put-word-2
 add-put-word-2 c = search needs
 
--- src/lib.rt:40:5
 put-word-requires-3 : tie.Need-put-word-requires-3
 put-word-requires-3 c κs = search needs
 
--- src/lib.rt:41:20
 add-put-word-3 : tie.Need-add-put-word-3
 add-put-word-3 c = search needs
 
--- src/lib.rt:41:5
 put-word-requires-4 : tie.Need-put-word-requires-4
 put-word-requires-4 c κs = search needs
 
--- src/lib.rt:42:5
 add-result : tie.Need-add-result
 add-result c = search needs
 
--- src/lib.rt:32:1
 same-length : tie.Need-same-length
 same-length c = search needs
 
--- src/lib.rt:32:1
 returns : tie.Need-returns
 returns c = (refl, written-by (c .before .before .before .before .before .before .before .before .before .before .before .before .before .before .before .before .before .args .rows .now) (c .before .before .before .before .before .before .before .before .before .before .before .before .before .before .before .before .before .args .used) (record { kind = c .before .before .before .before .before .before .before .before .before .before .before .before .before .before .before .before .before .args .kind; p = c .before .before .before .before .before .before .before .before .before .before .before .before .before .before .before .before .before .args .p; q = c .before .before .before .before .before .before .before .before .before .before .before .before .before .before .before .before .before .args .q; r = c .before .before .before .before .before .before .before .before .before .before .before .before .before .before .before .before .before .args .next }) (c .before .before .before .before .before .before .before .before .before .before .before .before .before .before .before .before .before .pre .0) (c .before .before .before .before .before .before .before .before .before .before .before .before .before .before .before .before .before .pre .2) (c .before .before .before .before .before .before .before .before .before .before .before .before .before .before .put-word .ensures) (c .before .before .before .before .before .before .before .before .before .before .put-word2 .ensures) (c .before .before .before .before .before .before .put-word3 .ensures) (c .before .before .put-word4 .ensures))
 

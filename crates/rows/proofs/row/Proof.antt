@@ -7,47 +7,36 @@ use Rattle.rows.proofs.row.Reads as reads
 use Rattle.rows.proofs.row.Lts as lts
 use Rattle.words.proofs.word_at.Reads as word-at-reads
 
--- src/lib.rt:22:18
 sub-i : tie.Need-sub-i
 sub-i c = search needs
 
--- src/lib.rt:22:13
 mul-i : tie.Need-mul-i
 mul-i c = search needs
 
--- src/lib.rt:24:15
 word-at-requires : tie.Need-word-at-requires
 word-at-requires c κs = search needs
 
--- src/lib.rt:24:15
 cast-t5 : tie.Need-cast-t5
 cast-t5 c = search needs
 
--- src/lib.rt:25:26
 add-word-at : tie.Need-add-word-at
 add-word-at c = search needs
 
--- src/lib.rt:25:12
 word-at-requires-2 : tie.Need-word-at-requires-2
 word-at-requires-2 c κs = search needs
 
--- src/lib.rt:26:26
 add-word-at-2 : tie.Need-add-word-at-2
 add-word-at-2 c = search needs
 
--- src/lib.rt:26:12
 word-at-requires-3 : tie.Need-word-at-requires-3
 word-at-requires-3 c κs = search needs
 
--- src/lib.rt:27:26
 add-word-at-3 : tie.Need-add-word-at-3
 add-word-at-3 c = search needs
 
--- src/lib.rt:27:12
 word-at-requires-4 : tie.Need-word-at-requires-4
 word-at-requires-4 c κs = search needs
 
--- src/lib.rt:17:1
 returns : tie.Need-returns
 returns c = (
   cells-eq (c .before .before .before .word-at .ensures .0) (c .before .before .word-at2 .ensures .0) (c .before .word-at3 .ensures .0) (c .word-at4 .ensures .0),

@@ -24,31 +24,24 @@ Inv-loop rows l from at₀ at = (at ≤ from) × ((byte : ℕ → ℕ) → kept 
 abbrev μ-loop : tie.MeasureT-loop
 μ-loop rows l from at₀ at = at
 
--- src/lib.rt:105:5
 loop-holds : tie.Need-loop-holds Inv-loop μ-loop
 loop-holds c = (omega arith, λ byte. refl)
 
--- src/lib.rt:106:13
 row-requires : tie.Need-row-requires Inv-loop μ-loop
 row-requires c κs = (omega arith, omega (arith, c .before .loop .inv .0, c .before .before .before .pre .small))
 
--- src/lib.rt:107:12
 labelled-requires : tie.Need-labelled-requires Inv-loop μ-loop
 labelled-requires c κs = search needs
 
--- src/lib.rt:108:13
 returns : tie.Need-returns Inv-loop μ-loop
 returns c = record { down = c .before .before .before .before .loop .inv .0; value = c .before .before .before .before .loop .inv .1; found = λ p. subst (λ (x : Cells). Labelled x (c .before .before .before .before .before .before .args .l)) (c .before .before .row .ensures .0) (judged-true (c .if1 .taken) (c .before .labelled .ensures)) }
 
--- src/lib.rt:105:5
 loop-less : tie.Need-loop-less Inv-loop μ-loop
 loop-less c = read-next (lentRow (c .before .before .before .before .before .before .args .rows .now)) (c .before .before .before .before .before .before .args .from) (c .before .before .before .before .loop .at) (cellsOf (c .before .before .row .result)) (c .before .before .before .before .before .before .pre .low) (omega arith) (c .before .before .before .before .loop .inv .0) (c .before .before .row .ensures .0)
 
--- src/lib.rt:105:5
 loop-again : tie.Need-loop-again Inv-loop μ-loop
 loop-again c = (omega (arith, c .before .before .before .before .loop .inv .0, read-next (lentRow (c .before .before .before .before .before .before .args .rows .now)) (c .before .before .before .before .before .before .args .from) (c .before .before .before .before .loop .at) (cellsOf (c .before .before .row .result)) (c .before .before .before .before .before .before .pre .low) (omega arith) (c .before .before .before .before .loop .inv .0) (c .before .before .row .ensures .0)), λ byte. sym (pick-no byte (lentRow (c .before .before .before .before .before .before .args .rows .now)) (c .before .before .before .before .before .before .args .from) (c .before .before .before .before .loop .at) (c .before .before .before .before .before .before .args .l) (cellsOf (c .before .before .row .result)) (c .before .before .before .before .before .before .pre .low) (omega arith) (c .before .before .before .before .loop .inv .0) (c .before .before .row .ensures .0) (judged-false (c .if1 .left) (c .before .labelled .ensures))) ∙ c .before .before .before .before .loop .inv .1 byte)
 
--- src/lib.rt:100:1
 returns-2 : tie.Need-returns-2 Inv-loop μ-loop
 returns-2 c = record { down = omega arith; value = λ byte. kept-none byte (lentRow (c .before .before .before .args .rows .now)) (c .before .before .before .args .l) 0 refl ∙ sym (kept-none byte (lentRow (c .before .before .before .args .rows .now)) (c .before .before .before .args .l) (c .before .loop .at) (omega arith)) ∙ c .before .loop .inv .1 byte; found = λ p. absurd (omega arith) }
 

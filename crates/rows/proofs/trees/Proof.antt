@@ -18,27 +18,21 @@ Inv-loop rows root n₀ at₀ n at = (n + at ≤ root) × ((byte : ℕ → ℕ) 
 abbrev μ-loop : tie.MeasureT-loop
 μ-loop rows root n₀ at₀ n at = at
 
--- src/lib.rt:52:5
 loop-holds : tie.Need-loop-holds Inv-loop μ-loop
 loop-holds c = (omega arith, λ byte. omega arith)
 
--- src/lib.rt:53:9
 add-n : tie.Need-add-n Inv-loop μ-loop
 add-n c = omega (arith, c .before .loop .inv .0, c .before .before .before .pre .small)
 
--- src/lib.rt:54:13
 row-requires : tie.Need-row-requires Inv-loop μ-loop
 row-requires c κs = (omega arith, omega (arith, c .before .loop .inv .0, c .before .before .before .pre .small))
 
--- src/lib.rt:52:5
 loop-less : tie.Need-loop-less Inv-loop μ-loop
 loop-less c = read-next (lentRow (c .before .before .before .before .args .rows .now)) (c .before .before .before .before .args .root) (c .before .before .loop .at) (cellsOf (c .row .result)) (c .before .before .before .before .pre .low) (omega arith) (omega (arith, c .before .before .loop .inv .0)) (c .row .ensures .0)
 
--- src/lib.rt:52:5
 loop-again : tie.Need-loop-again Inv-loop μ-loop
 loop-again c = (omega (arith, c .before .before .loop .inv .0, read-next (lentRow (c .before .before .before .before .args .rows .now)) (c .before .before .before .before .args .root) (c .before .before .loop .at) (cellsOf (c .row .result)) (c .before .before .before .before .pre .low) (omega arith) (omega (arith, c .before .before .loop .inv .0)) (c .row .ensures .0)), λ byte. omega (arith, c .before .before .loop .inv .1 byte, read-count byte (lentRow (c .before .before .before .before .args .rows .now)) (c .before .before .before .before .args .root) (c .before .before .loop .at) (cellsOf (c .row .result)) (c .before .before .before .before .pre .low) (omega arith) (omega (arith, c .before .before .loop .inv .0)) (c .row .ensures .0)))
 
--- src/lib.rt:46:1
 returns : tie.Need-returns Inv-loop μ-loop
 returns c = λ byte. omega (arith, c .before .loop .inv .1 byte, count-none byte (lentRow (c .before .before .before .args .rows .now)) (c .before .loop .at) (omega arith))
 

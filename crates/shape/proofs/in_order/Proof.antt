@@ -5,11 +5,9 @@ use Rattle.shape.proofs.in_order.Tie as tie
 use Rattle.shape.proofs.in_order.Reads as reads
 use Rattle.shape.proofs.in_order.Lts as lts
 
--- src/lib.rt:76:9
 returns : tie.Need-returns
 returns c = rw (eq-eqb (c .before .args .first) 0 (c .if1 .taken))
 
--- src/lib.rt:72:1
 returns-2 : tie.Need-returns-2
 returns-2 c = rw (ne-eqb (c .before .args .first) 0 (c .if1 .left))
 

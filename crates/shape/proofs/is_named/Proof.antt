@@ -10,23 +10,18 @@ use Rattle.kinds.proofs.in_table.Reads as in-table-reads
 use Rattle.sheet.proofs.name_row.Reads as name-row-reads
 use Rattle.sheet.proofs.type_row.Reads as type-row-reads
 
--- src/lib.rt:49:9
 name-row-requires : tie.Need-name-row-requires
 name-row-requires c κs = search needs
 
--- src/lib.rt:50:9
 in-table-requires : tie.Need-in-table-requires
 in-table-requires c κs = search needs
 
--- src/lib.rt:51:9
 returns : tie.Need-returns
 returns c = rw (name-is (c .before .before .before .before .pre) (c .before .before .before .before .args .x), ← (c .before .before .name-row .ensures .0), ← (c .before .in-table .ensures), not-true (c .before .in-table .result) (c .if1 .taken))
 
--- src/lib.rt:53:9
 type-row-requires : tie.Need-type-row-requires
 type-row-requires c κs = search needs
 
--- src/lib.rt:45:1
 returns-2 : tie.Need-returns-2
 returns-2 c = rw (name-is (c .before .before .before .before .before .before .pre) (c .before .before .before .before .before .before .args .x), ← (c .before .before .before .before .name-row .ensures .0), ← (c .before .type-row .ensures), ← (c .before .before .before .in-table .ensures), not-false (c .before .before .before .in-table .result) (c .before .before .if1 .left))
 

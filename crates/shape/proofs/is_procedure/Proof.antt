@@ -10,14 +10,12 @@ use Rattle.shape.proofs.is_procedure.Lts as lts
 use Rattle.kinds.proofs.in_table.Reads as in-table-reads
 use Rattle.shape.proofs.in_order.Reads as in-order-reads
 
--- src/lib.rt:86:9
 returns : tie.Need-returns
 returns c = λ s L. rw (
   procedure-is L (procedureOf (c .before .before .before .args .c)),
   lt-leb (c .before .before .before .args .c .first) (c .before .before .before .args .l .types) (c .if1 .taken),
 )
 
--- src/lib.rt:89:9
 returns-2 : tie.Need-returns-2
 returns-2 c = λ s L. rw (
   procedure-is L (procedureOf (c .before .before .before .before .before .before .args .c)),
@@ -25,11 +23,9 @@ returns-2 c = λ s L. rw (
   lt-leb (c .before .before .before .before .before .before .args .c .second) (c .before .before .before .before .before .before .args .l .types) (c .if2 .taken),
 )
 
--- src/lib.rt:91:9
 in-order-requires : tie.Need-in-order-requires
 in-order-requires c κs = search needs
 
--- src/lib.rt:92:9
 returns-3 : tie.Need-returns-3
 returns-3 c = λ s L. rw (
   procedure-is L (procedureOf (c .before .before .before .before .before .before .before .before .args .c)),
@@ -39,11 +35,9 @@ returns-3 c = λ s L. rw (
   not-true (c .before .in-order .result) (c .if3 .taken),
 )
 
--- src/lib.rt:94:9
 in-table-requires : tie.Need-in-table-requires
 in-table-requires c κs = search needs
 
--- src/lib.rt:95:9
 returns-4 : tie.Need-returns-4
 returns-4 c = λ s L. rw (
   procedure-is L (procedureOf (c .before .before .before .before .before .before .before .before .before .before .args .c)),
@@ -55,11 +49,9 @@ returns-4 c = λ s L. rw (
   not-true (c .before .in-table .result) (c .if4 .taken),
 )
 
--- src/lib.rt:97:9
 in-table-requires-2 : tie.Need-in-table-requires-2
 in-table-requires-2 c κs = search needs
 
--- src/lib.rt:98:9
 returns-5 : tie.Need-returns-5
 returns-5 c = λ s L. rw (
   procedure-is L (procedureOf (c .before .before .before .before .before .before .before .before .before .before .before .before .args .c)),
@@ -73,11 +65,9 @@ returns-5 c = λ s L. rw (
   not-true (c .before .in-table2 .result) (c .if5 .taken),
 )
 
--- src/lib.rt:100:5
 in-table-requires-3 : tie.Need-in-table-requires-3
 in-table-requires-3 c κs = search needs
 
--- src/lib.rt:82:1
 returns-6 : tie.Need-returns-6
 returns-6 c = λ s L. rw (
   procedure-is L (procedureOf (c .before .before .before .before .before .before .before .before .before .before .before .before .before .args .c)),

@@ -6,14 +6,12 @@ use Rattle.shape.proofs.limits_ok.Tie as tie
 use Rattle.shape.proofs.limits_ok.Reads as reads
 use Rattle.shape.proofs.limits_ok.Lts as lts
 
--- src/lib.rt:18:9
 returns : tie.Need-returns
 returns c = λ s L. rw (
   limits-are L,
   lt-leb (c .before .before .args .l .names) 32 (c .if1 .taken),
 )
 
--- src/lib.rt:21:9
 returns-2 : tie.Need-returns-2
 returns-2 c = λ s L. rw (
   limits-are L,
@@ -21,7 +19,6 @@ returns-2 c = λ s L. rw (
   lt-leb (c .before .before .before .before .args .l .types) 512 (c .if2 .taken),
 )
 
--- src/lib.rt:24:9
 returns-3 : tie.Need-returns-3
 returns-3 c = λ s L. rw (
   limits-are L,
@@ -30,7 +27,6 @@ returns-3 c = λ s L. rw (
   lt-leb (c .before .before .before .before .before .before .args .l .queries) 512 (c .if3 .taken),
 )
 
--- src/lib.rt:27:9
 returns-4 : tie.Need-returns-4
 returns-4 c = λ s L. rw (
   limits-are L,
@@ -40,7 +36,6 @@ returns-4 c = λ s L. rw (
   lt-leb (c .before .before .before .before .before .before .before .before .args .l .statements) 512 (c .if4 .taken),
 )
 
--- src/lib.rt:30:9
 returns-5 : tie.Need-returns-5
 returns-5 c = λ s L. rw (
   limits-are L,
@@ -51,7 +46,6 @@ returns-5 c = λ s L. rw (
   lt-leb (c .before .before .before .before .before .before .before .before .before .before .args .l .procedures) 16 (c .if5 .taken),
 )
 
--- src/lib.rt:33:9
 returns-6 : tie.Need-returns-6
 returns-6 c = λ s L. rw (
   limits-are L,
@@ -63,7 +57,6 @@ returns-6 c = λ s L. rw (
   lt-leb (c .before .before .before .before .before .before .before .before .before .before .before .before .args .l .rows) 2048 (c .if6 .taken),
 )
 
--- src/lib.rt:36:9
 returns-7 : tie.Need-returns-7
 returns-7 c = λ s L. rw (
   limits-are L,
@@ -76,7 +69,6 @@ returns-7 c = λ s L. rw (
   lt-leb (c .before .before .before .before .before .before .before .before .before .before .before .before .before .before .args .l .pool) 16384 (c .if7 .taken),
 )
 
--- src/lib.rt:39:9
 returns-8 : tie.Need-returns-8
 returns-8 c = λ s L. rw (
   limits-are L,
@@ -90,7 +82,6 @@ returns-8 c = λ s L. rw (
   lt-leb (c .before .before .before .before .before .before .before .before .before .before .before .before .before .before .before .before .args .l .«check_fuel») 4096 (c .if8 .taken),
 )
 
--- src/lib.rt:14:1
 returns-9 : tie.Need-returns-9
 returns-9 c = λ s L. rw (
   limits-are L,

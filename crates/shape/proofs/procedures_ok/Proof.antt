@@ -4,7 +4,7 @@ use native.Mathlib.Omega.{arith}
 use Prim.Native.Nat.{_-_}
 use Rattle.meaning.specs.Sheet.{scriptOf, sheetOf}
 use Rattle.meaning.specs.Shape.{procedure-ok}
-use Rattle.kinds.specs.Turns.{Passed, none-yet, one-more, fails, passes}
+use Rattle.meaning.specs.Laws.Turns.{Passed, none-yet, one-more, fails, passes}
 use Rattle.shape.proofs.Rules.{procedures-are}
 use Rattle.shape.proofs.procedures_ok.Statement.{statement}
 use Rattle.shape.proofs.procedures_ok.Tie as tie
@@ -19,35 +19,27 @@ Inv-loop s l i₀ i = Passed (λ k. procedure-ok (sheetOf s) (scriptOf s .proced
 abbrev μ-loop : tie.MeasureT-loop
 μ-loop s l i₀ i = l .procedures - i
 
--- src/lib.rt:108:5
 loop-holds : tie.Need-loop-holds Inv-loop μ-loop
 loop-holds c = none-yet (λ k. procedure-ok (sheetOf (c .before .args .s .now)) (scriptOf (c .before .args .s .now) .procedureRow k)) (c .before .args .l .procedures)
 
--- src/lib.rt:109:9
 add-i : tie.Need-add-i Inv-loop μ-loop
 add-i c = omega (arith, c .before .before .before .before .pre .few-procedures)
 
--- src/lib.rt:110:29
 procedure-row-requires : tie.Need-procedure-row-requires Inv-loop μ-loop
 procedure-row-requires c κs = c .before .before .before .before .pre
 
--- src/lib.rt:110:13
 is-procedure-requires : tie.Need-is-procedure-requires Inv-loop μ-loop
 is-procedure-requires c κs = tt
 
--- src/lib.rt:111:13
 returns : tie.Need-returns Inv-loop μ-loop
 returns c = sym (procedures-are (c .before .before .before .before .before .before .before .pre) ∙ fails (λ k. procedure-ok (sheetOf (c .before .before .before .before .before .before .before .args .s .now)) (scriptOf (c .before .before .before .before .before .before .before .args .s .now) .procedureRow k)) (c .before .before .before .before .before .before .before .args .l .procedures) (c .before .before .before .before .before .loop .i) (c .before .before .before .if1 .taken) (c .before .is-procedure .ensures (c .before .before .before .before .before .before .before .args .s .now) (c .before .before .before .before .before .before .before .pre) ∙ ap (procedure-ok (sheetOf (c .before .before .before .before .before .before .before .args .s .now))) (c .before .before .procedure-row .ensures)) (c .if2 .taken))
 
--- src/lib.rt:108:5
 loop-less : tie.Need-loop-less Inv-loop μ-loop
 loop-less c = omega arith
 
--- src/lib.rt:108:5
 loop-again : tie.Need-loop-again Inv-loop μ-loop
 loop-again c = one-more (λ k. procedure-ok (sheetOf (c .before .before .before .before .before .before .before .args .s .now)) (scriptOf (c .before .before .before .before .before .before .before .args .s .now) .procedureRow k)) (c .before .before .before .before .before .before .before .args .l .procedures) (c .before .before .before .before .before .loop .i) (c .before .before .before .before .before .loop .inv) (c .before .before .before .if1 .taken) (c .before .is-procedure .ensures (c .before .before .before .before .before .before .before .args .s .now) (c .before .before .before .before .before .before .before .pre) ∙ ap (procedure-ok (sheetOf (c .before .before .before .before .before .before .before .args .s .now))) (c .before .before .procedure-row .ensures)) (c .if2 .left)
 
--- src/lib.rt:103:1
 returns-2 : tie.Need-returns-2 Inv-loop μ-loop
 returns-2 c = sym (procedures-are (c .before .before .before .before .pre) ∙ passes (λ k. procedure-ok (sheetOf (c .before .before .before .before .args .s .now)) (scriptOf (c .before .before .before .before .args .s .now) .procedureRow k)) (c .before .before .before .before .args .l .procedures) (c .before .before .loop .i) (c .before .before .loop .inv) (c .if1 .left))
 

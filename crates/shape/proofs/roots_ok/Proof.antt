@@ -8,11 +8,9 @@ use Rattle.shape.proofs.roots_ok.Reads as reads
 use Rattle.shape.proofs.roots_ok.Lts as lts
 use Rattle.kinds.proofs.in_table.Reads as in-table-reads
 
--- src/lib.rt:121:9
 in-table-requires : tie.Need-in-table-requires
 in-table-requires c κs = search needs
 
--- src/lib.rt:122:9
 returns : tie.Need-returns
 returns c = λ s L. rw (
   roots-are L,
@@ -20,11 +18,9 @@ returns c = λ s L. rw (
   not-true (c .before .in-table .result) (c .if1 .taken),
 )
 
--- src/lib.rt:124:9
 in-table-requires-2 : tie.Need-in-table-requires-2
 in-table-requires-2 c κs = search needs
 
--- src/lib.rt:125:9
 returns-2 : tie.Need-returns-2
 returns-2 c = λ s L. rw (
   roots-are L,
@@ -34,11 +30,9 @@ returns-2 c = λ s L. rw (
   not-true (c .before .in-table2 .result) (c .if2 .taken),
 )
 
--- src/lib.rt:127:9
 in-table-requires-3 : tie.Need-in-table-requires-3
 in-table-requires-3 c κs = search needs
 
--- src/lib.rt:128:9
 returns-3 : tie.Need-returns-3
 returns-3 c = λ s L. rw (
   roots-are L,
@@ -50,7 +44,6 @@ returns-3 c = λ s L. rw (
   not-true (c .before .in-table3 .result) (c .if3 .taken),
 )
 
--- src/lib.rt:118:1
 returns-4 : tie.Need-returns-4
 returns-4 c = λ s L. rw (
   roots-are L,

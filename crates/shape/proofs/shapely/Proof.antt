@@ -14,31 +14,24 @@ use Rattle.shape.proofs.tables_ok.Reads as tables-ok-reads
 use Rattle.sheet.proofs.lay_out.Reads as lay-out-reads
 use Rattle.sheet.proofs.need_of.Reads as need-of-reads
 
--- src/lib.rt:169:9
 lay-out-requires : tie.Need-lay-out-requires
 lay-out-requires c κs = tt
 
--- src/lib.rt:170:9
 need-of-requires : tie.Need-need-of-requires
 need-of-requires c κs = c .lay-out .ensures
 
--- src/lib.rt:172:9
 returns : tie.Need-returns
 returns c = rw (lt-leb (need (c .before .before .before .before .args .s .now)) (length (c .before .before .before .before .args .s .now)) (subst (λ n. length (c .before .before .before .before .args .s .now) < n) (c .before .need-of .ensures) (c .if1 .taken)))
 
--- src/lib.rt:174:9
 tables-ok-requires : tie.Need-tables-ok-requires
 tables-ok-requires c κs = c .before .before .lay-out .ensures
 
--- src/lib.rt:175:9
 returns-2 : tie.Need-returns-2
 returns-2 c = rw (le-leb (need (c .before .before .before .before .before .before .args .s .now)) (length (c .before .before .before .before .before .before .args .s .now)) (subst (λ n. n ≤ length (c .before .before .before .before .before .before .args .s .now)) (c .before .before .before .need-of .ensures) (c .before .before .if1 .left)), ← (c .before .tables-ok .ensures), not-true (c .before .tables-ok .result) (c .if2 .taken))
 
--- src/lib.rt:177:5
 scope-ok-requires : tie.Need-scope-ok-requires
 scope-ok-requires c κs = (c .before .before .before .before .lay-out .ensures, settled (c .before .before .before .before .before .before .args .s .now) (sym (c .before .tables-ok .ensures) ∙ not-false (c .before .tables-ok .result) (c .if2 .left)))
 
--- src/lib.rt:166:1
 returns-3 : tie.Need-returns-3
 unfolding sheetOf
 returns-3 c = rw (le-leb (need (c .before .before .before .before .before .before .before .args .s .now)) (length (c .before .before .before .before .before .before .before .args .s .now)) (subst (λ n. n ≤ length (c .before .before .before .before .before .before .before .args .s .now)) (c .before .before .before .before .need-of .ensures) (c .before .before .before .if1 .left)), ← (c .before .before .tables-ok .ensures), not-false (c .before .before .tables-ok .result) (c .before .if2 .left)) (c .scope-ok .ensures)

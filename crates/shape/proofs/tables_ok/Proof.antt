@@ -15,22 +15,18 @@ use Rattle.shape.proofs.procedures_ok.Reads as procedures-ok-reads
 use Rattle.shape.proofs.roots_ok.Reads as roots-ok-reads
 use Rattle.users.proofs.users_ok.Reads as users-ok-reads
 
--- src/lib.rt:138:9
 limits-ok-requires : tie.Need-limits-ok-requires
 limits-ok-requires c κs = tt
 
--- src/lib.rt:139:9
 returns : tie.Need-returns
 returns c = rw (
   ← (c .before .limits-ok .ensures (c .before .before .before .args .s .now) (c .before .before .before .pre)),
   not-true (c .before .limits-ok .result) (c .if1 .taken),
 )
 
--- src/lib.rt:141:9
 types-ok-requires : tie.Need-types-ok-requires
 types-ok-requires c κs = c .before .before .before .pre
 
--- src/lib.rt:142:9
 returns-2 : tie.Need-returns-2
 returns-2 c = rw (
   ← (c .before .before .before .limits-ok .ensures (c .before .before .before .before .before .args .s .now) (c .before .before .before .before .before .pre)),
@@ -39,11 +35,9 @@ returns-2 c = rw (
   not-true (c .before .types-ok .result) (c .if2 .taken),
 )
 
--- src/lib.rt:144:9
 queries-ok-requires : tie.Need-queries-ok-requires
 queries-ok-requires c κs = c .before .before .before .before .before .pre
 
--- src/lib.rt:145:9
 returns-3 : tie.Need-returns-3
 returns-3 c = rw (
   ← (c .before .before .before .before .before .limits-ok .ensures (c .before .before .before .before .before .before .before .args .s .now) (c .before .before .before .before .before .before .before .pre)),
@@ -54,11 +48,9 @@ returns-3 c = rw (
   not-true (c .before .queries-ok .result) (c .if3 .taken),
 )
 
--- src/lib.rt:147:9
 statements-ok-requires : tie.Need-statements-ok-requires
 statements-ok-requires c κs = c .before .before .before .before .before .before .before .pre
 
--- src/lib.rt:148:9
 returns-4 : tie.Need-returns-4
 returns-4 c = rw (
   ← (c .before .before .before .before .before .before .before .limits-ok .ensures (c .before .before .before .before .before .before .before .before .before .args .s .now) (c .before .before .before .before .before .before .before .before .before .pre)),
@@ -71,11 +63,9 @@ returns-4 c = rw (
   not-true (c .before .statements-ok .result) (c .if4 .taken),
 )
 
--- src/lib.rt:150:9
 rows-ok-requires : tie.Need-rows-ok-requires
 rows-ok-requires c κs = c .before .before .before .before .before .before .before .before .before .pre
 
--- src/lib.rt:151:9
 returns-5 : tie.Need-returns-5
 returns-5 c = rw (
   ← (c .before .before .before .before .before .before .before .before .before .limits-ok .ensures (c .before .before .before .before .before .before .before .before .before .before .before .args .s .now) (c .before .before .before .before .before .before .before .before .before .before .before .pre)),
@@ -90,11 +80,9 @@ returns-5 c = rw (
   not-true (c .before .rows-ok .result) (c .if5 .taken),
 )
 
--- src/lib.rt:153:9
 names-ok-requires : tie.Need-names-ok-requires
 names-ok-requires c κs = c .before .before .before .before .before .before .before .before .before .before .before .pre
 
--- src/lib.rt:154:9
 returns-6 : tie.Need-returns-6
 returns-6 c = rw (
   ← (c .before .before .before .before .before .before .before .before .before .before .before .limits-ok .ensures (c .before .before .before .before .before .before .before .before .before .before .before .before .before .args .s .now) (c .before .before .before .before .before .before .before .before .before .before .before .before .before .pre)),
@@ -111,11 +99,9 @@ returns-6 c = rw (
   not-true (c .before .names-ok .result) (c .if6 .taken),
 )
 
--- src/lib.rt:156:9
 procedures-ok-requires : tie.Need-procedures-ok-requires
 procedures-ok-requires c κs = c .before .before .before .before .before .before .before .before .before .before .before .before .before .pre
 
--- src/lib.rt:157:9
 returns-7 : tie.Need-returns-7
 returns-7 c = rw (
   ← (c .before .before .before .before .before .before .before .before .before .before .before .before .before .limits-ok .ensures (c .before .before .before .before .before .before .before .before .before .before .before .before .before .before .before .args .s .now) (c .before .before .before .before .before .before .before .before .before .before .before .before .before .before .before .pre)),
@@ -134,11 +120,9 @@ returns-7 c = rw (
   not-true (c .before .procedures-ok .result) (c .if7 .taken),
 )
 
--- src/lib.rt:159:9
 roots-ok-requires : tie.Need-roots-ok-requires
 roots-ok-requires c κs = tt
 
--- src/lib.rt:160:9
 returns-8 : tie.Need-returns-8
 returns-8 c = rw (
   ← (c .before .before .before .before .before .before .before .before .before .before .before .before .before .before .before .limits-ok .ensures (c .before .before .before .before .before .before .before .before .before .before .before .before .before .before .before .before .before .args .s .now) (c .before .before .before .before .before .before .before .before .before .before .before .before .before .before .before .before .before .pre)),
@@ -159,11 +143,9 @@ returns-8 c = rw (
   not-true (c .before .roots-ok .result) (c .if8 .taken),
 )
 
--- src/lib.rt:162:5
 users-ok-requires : tie.Need-users-ok-requires
 users-ok-requires c κs = (c .before .before .before .before .before .before .before .before .before .before .before .before .before .before .before .before .before .pre, sym (c .before .before .before .before .before .before .before .before .before .before .before .before .before .before .before .limits-ok .ensures (c .before .before .before .before .before .before .before .before .before .before .before .before .before .before .before .before .before .args .s .now) (c .before .before .before .before .before .before .before .before .before .before .before .before .before .before .before .before .before .pre)) ∙ not-false (c .before .before .before .before .before .before .before .before .before .before .before .before .before .before .before .limits-ok .result) (c .before .before .before .before .before .before .before .before .before .before .before .before .before .before .if1 .left))
 
--- src/lib.rt:134:1
 returns-9 : tie.Need-returns-9
 returns-9 c = rw (
   ← (c .before .before .before .before .before .before .before .before .before .before .before .before .before .before .before .before .limits-ok .ensures (c .before .before .before .before .before .before .before .before .before .before .before .before .before .before .before .before .before .before .args .s .now) (c .before .before .before .before .before .before .before .before .before .before .before .before .before .before .before .before .before .before .pre)),

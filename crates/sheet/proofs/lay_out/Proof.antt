@@ -8,103 +8,78 @@ use Rattle.sheet.proofs.lay_out.Reads as reads
 use Rattle.sheet.proofs.lay_out.Lts as lts
 use Rattle.words.proofs.word_at.Reads as word-at-reads
 
--- src/lib.rt:40:9
 word-at-requires : tie.Need-word-at-requires
 word-at-requires c κs = search needs
 
--- src/lib.rt:41:9
 word-at-requires-2 : tie.Need-word-at-requires-2
 word-at-requires-2 c κs = search needs
 
--- src/lib.rt:42:9
 word-at-requires-3 : tie.Need-word-at-requires-3
 word-at-requires-3 c κs = search needs
 
--- src/lib.rt:43:9
 word-at-requires-4 : tie.Need-word-at-requires-4
 word-at-requires-4 c κs = search needs
 
--- src/lib.rt:44:9
 word-at-requires-5 : tie.Need-word-at-requires-5
 word-at-requires-5 c κs = search needs
 
--- src/lib.rt:45:9
 word-at-requires-6 : tie.Need-word-at-requires-6
 word-at-requires-6 c κs = search needs
 
--- src/lib.rt:46:20
 add-types-at : tie.Need-add-types-at
 add-types-at c = search needs
 
--- src/lib.rt:47:33
 mul-queries-at : tie.Need-mul-queries-at
 mul-queries-at c = search needs
 
--- src/lib.rt:47:22
 add-queries-at : tie.Need-add-queries-at
 add-queries-at c = search needs
 
--- src/lib.rt:48:38
 mul-statements-at : tie.Need-mul-statements-at
 mul-statements-at c = search needs
 
--- src/lib.rt:48:25
 add-statements-at : tie.Need-add-statements-at
 add-statements-at c = search needs
 
--- src/lib.rt:49:41
 mul-procedures-at : tie.Need-mul-procedures-at
 mul-procedures-at c = search needs
 
--- src/lib.rt:49:25
 add-procedures-at : tie.Need-add-procedures-at
 add-procedures-at c = search needs
 
--- src/lib.rt:50:35
 mul-rows-at : tie.Need-mul-rows-at
 mul-rows-at c = search needs
 
--- src/lib.rt:50:19
 add-rows-at : tie.Need-add-rows-at
 add-rows-at c = search needs
 
--- src/lib.rt:53:15
 word-at-requires-7 : tie.Need-word-at-requires-7
 word-at-requires-7 c κs = search needs
 
--- src/lib.rt:54:12
 word-at-requires-8 : tie.Need-word-at-requires-8
 word-at-requires-8 c κs = search needs
 
--- src/lib.rt:55:12
 word-at-requires-9 : tie.Need-word-at-requires-9
 word-at-requires-9 c κs = search needs
 
--- src/lib.rt:56:15
 word-at-requires-10 : tie.Need-word-at-requires-10
 word-at-requires-10 c κs = search needs
 
--- src/lib.rt:57:15
 word-at-requires-11 : tie.Need-word-at-requires-11
 word-at-requires-11 c κs = search needs
 
--- src/lib.rt:58:21
 word-at-requires-12 : tie.Need-word-at-requires-12
 word-at-requires-12 c κs = search needs
 
--- src/lib.rt:59:19
 word-at-requires-13 : tie.Need-word-at-requires-13
 word-at-requires-13 c κs = search needs
 
--- src/lib.rt:61:28
 mul-t20 : tie.Need-mul-t20
 mul-t20 c = search needs
 
--- src/lib.rt:61:18
 add-t21 : tie.Need-add-t21
 add-t21 c = search needs
 
--- src/lib.rt:37:1
 returns : tie.Need-returns
 returns c = record {
   names = c .before .before .before .before .before .before .before .before .before .before .before .before .word-at .ensures .0;

@@ -9,27 +9,21 @@ use Rattle.sheet.proofs.name_row.Reads as reads
 use Rattle.sheet.proofs.name_row.Lts as lts
 use Rattle.words.proofs.word_at.Reads as word-at-reads
 
--- src/lib.rt:112:9
 returns : tie.Need-returns
 returns c = (no-name (c .before .before .pre) (c .before .before .args .x) (outside-low (c .before .before .args .l .names) (c .before .before .args .x) (omega arith)), omega arith)
 
--- src/lib.rt:115:9
 returns-2 : tie.Need-returns-2
 returns-2 c = (no-name (c .before .before .before .before .pre) (c .before .before .before .before .args .x) (outside-high (c .before .before .before .before .args .l .names) (c .before .before .before .before .args .x) (omega arith)), omega arith)
 
--- src/lib.rt:117:22
 sub-word-at : tie.Need-sub-word-at
 sub-word-at c = search needs
 
--- src/lib.rt:117:16
 add-word-at : tie.Need-add-word-at
 add-word-at c = search needs
 
--- src/lib.rt:117:5
 word-at-requires : tie.Need-word-at-requires
 word-at-requires c κs = search needs
 
--- src/lib.rt:106:1
 returns-3 : tie.Need-returns-3
 returns-3 c = (c .word-at .ensures .0 ∙ a-name (c .before .before .before .before .before .pre) (c .before .before .before .before .before .args .x) (inside (c .before .before .before .before .before .args .l .names) (c .before .before .before .before .before .args .x) (λ e. omega arith) (omega arith)), c .word-at .ensures .1)
 

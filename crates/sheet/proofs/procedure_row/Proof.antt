@@ -9,63 +9,48 @@ use Rattle.sheet.proofs.procedure_row.Reads as reads
 use Rattle.sheet.proofs.procedure_row.Lts as lts
 use Rattle.words.proofs.word_at.Reads as word-at-reads
 
--- src/lib.rt:153:9
 returns : tie.Need-returns
 returns c = five-none (c .before .before .args .s .now) (c .before .before .args .l .«procedures_at») (c .before .before .args .l .procedures) (c .before .before .args .c) (outside-low (c .before .before .args .l .procedures) (c .before .before .args .c) (omega arith)) ∙ procedure-table (c .before .before .pre) (c .before .before .args .c)
 
--- src/lib.rt:156:9
 returns-2 : tie.Need-returns-2
 returns-2 c = five-none (c .before .before .before .before .args .s .now) (c .before .before .before .before .args .l .«procedures_at») (c .before .before .before .before .args .l .procedures) (c .before .before .before .before .args .c) (outside-high (c .before .before .before .before .args .l .procedures) (c .before .before .before .before .args .c) (omega arith)) ∙ procedure-table (c .before .before .before .before .pre) (c .before .before .before .before .args .c)
 
--- src/lib.rt:158:36
 sub-i : tie.Need-sub-i
 sub-i c = search needs
 
--- src/lib.rt:158:31
 mul-i : tie.Need-mul-i
 mul-i c = search needs
 
--- src/lib.rt:158:13
 add-i : tie.Need-add-i
 add-i c = search needs
 
--- src/lib.rt:159:24
 word-at-requires : tie.Need-word-at-requires
 word-at-requires c κs = search needs
 
--- src/lib.rt:159:58
 add-word-at : tie.Need-add-word-at
 add-word-at c = search needs
 
--- src/lib.rt:159:47
 word-at-requires-2 : tie.Need-word-at-requires-2
 word-at-requires-2 c κs = search needs
 
--- src/lib.rt:159:84
 add-word-at-2 : tie.Need-add-word-at-2
 add-word-at-2 c = search needs
 
--- src/lib.rt:159:73
 word-at-requires-3 : tie.Need-word-at-requires-3
 word-at-requires-3 c κs = search needs
 
--- src/lib.rt:159:111
 add-word-at-3 : tie.Need-add-word-at-3
 add-word-at-3 c = search needs
 
--- src/lib.rt:159:100
 word-at-requires-4 : tie.Need-word-at-requires-4
 word-at-requires-4 c κs = search needs
 
--- src/lib.rt:159:136
 add-word-at-4 : tie.Need-add-word-at-4
 add-word-at-4 c = search needs
 
--- src/lib.rt:159:125
 word-at-requires-5 : tie.Need-word-at-requires-5
 word-at-requires-5 c κs = search needs
 
--- src/lib.rt:148:1
 returns-3 : tie.Need-returns-3
 returns-3 c = five-some (c .before .before .before .before .before .before .before .before .before .before .args .s .now) (c .before .before .before .before .before .before .before .before .before .before .args .l .«procedures_at») (c .before .before .before .before .before .before .before .before .before .before .args .l .procedures) (c .before .before .before .before .before .before .before .before .before .before .args .c) (inside (c .before .before .before .before .before .before .before .before .before .before .args .l .procedures) (c .before .before .before .before .before .before .before .before .before .before .args .c) (λ e. omega arith) (omega arith)) (c .before .before .before .before .word-at .ensures .0) (c .before .before .before .word-at2 .ensures .0) (c .before .before .word-at3 .ensures .0) (c .before .word-at4 .ensures .0) (c .word-at5 .ensures .0) ∙ procedure-table (c .before .before .before .before .before .before .before .before .before .before .pre) (c .before .before .before .before .before .before .before .before .before .before .args .c)
 

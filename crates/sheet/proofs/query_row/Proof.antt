@@ -9,11 +9,9 @@ use Rattle.sheet.proofs.query_row.Reads as reads
 use Rattle.sheet.proofs.query_row.Lts as lts
 use Rattle.sheet.proofs.row_of_four.Reads as row-of-four-reads
 
--- src/lib.rt:131:5
 row-of-four-requires : tie.Need-row-of-four-requires
 row-of-four-requires c κs = search needs
 
--- src/lib.rt:127:1
 returns : tie.Need-returns
 returns c = (c .row-of-four .ensures .0 ∙ query-table (c .before .before .pre) (c .before .before .args .r), c .row-of-four .ensures .1)
 

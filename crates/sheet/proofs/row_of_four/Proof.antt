@@ -10,67 +10,51 @@ use Rattle.sheet.proofs.row_of_four.Lts as lts
 use Rattle.sheet.proofs.no_row.Reads as no-row-reads
 use Rattle.words.proofs.word_at.Reads as word-at-reads
 
--- src/lib.rt:97:9
 no-row-requires : tie.Need-no-row-requires
 no-row-requires c κs = search needs
 
--- src/lib.rt:97:9
 returns : tie.Need-returns
 returns c = (c .no-row .ensures ∙ four-none (c .before .before .before .args .s .now) (c .before .before .before .args .at) (c .before .before .before .args .n) (c .before .before .before .args .r) (outside-low (c .before .before .before .args .n) (c .before .before .before .args .r) (omega arith)), blank-words (c .no-row .ensures))
 
--- src/lib.rt:100:9
 no-row-requires-2 : tie.Need-no-row-requires-2
 no-row-requires-2 c κs = search needs
 
--- src/lib.rt:100:9
 returns-2 : tie.Need-returns-2
 returns-2 c = (c .no-row2 .ensures ∙ four-none (c .before .before .before .before .args .s .now) (c .before .before .before .before .args .at) (c .before .before .before .before .args .n) (c .before .before .before .before .args .r) (outside-high (c .before .before .before .before .args .n) (c .before .before .before .before .args .r) (omega arith)), blank-words (c .no-row2 .ensures))
 
--- src/lib.rt:102:23
 sub-i : tie.Need-sub-i
 sub-i c = search needs
 
--- src/lib.rt:102:18
 mul-i : tie.Need-mul-i
 mul-i c = search needs
 
--- src/lib.rt:102:13
 add-i : tie.Need-add-i
 add-i c = search needs
 
--- src/lib.rt:103:17
 word-at-requires : tie.Need-word-at-requires
 word-at-requires c κs = search needs
 
--- src/lib.rt:103:17
 cast-t9 : tie.Need-cast-t9
 cast-t9 c = search needs
 
--- src/lib.rt:103:53
 add-word-at : tie.Need-add-word-at
 add-word-at c = search needs
 
--- src/lib.rt:103:42
 word-at-requires-2 : tie.Need-word-at-requires-2
 word-at-requires-2 c κs = search needs
 
--- src/lib.rt:103:75
 add-word-at-2 : tie.Need-add-word-at-2
 add-word-at-2 c = search needs
 
--- src/lib.rt:103:64
 word-at-requires-3 : tie.Need-word-at-requires-3
 word-at-requires-3 c κs = search needs
 
--- src/lib.rt:103:97
 add-word-at-3 : tie.Need-add-word-at-3
 add-word-at-3 c = search needs
 
--- src/lib.rt:103:86
 word-at-requires-4 : tie.Need-word-at-requires-4
 word-at-requires-4 c κs = search needs
 
--- src/lib.rt:92:1
 returns-3 : tie.Need-returns-3
 returns-3 c = (four-some (c .before .before .before .before .before .before .before .args .s .now) (c .before .before .before .before .before .before .before .args .at) (c .before .before .before .before .before .before .before .args .n) (c .before .before .before .before .before .before .before .args .r) (inside (c .before .before .before .before .before .before .before .args .n) (c .before .before .before .before .before .before .before .args .r) (λ e. omega arith) (omega arith)) (c .before .before .before .word-at .ensures .0) (c .before .before .word-at2 .ensures .0) (c .before .word-at3 .ensures .0) (c .word-at4 .ensures .0), record { kind = c .before .before .before .word-at .ensures .1; p = c .before .before .word-at2 .ensures .1; q = c .before .word-at3 .ensures .1; r = c .word-at4 .ensures .1 })
 

@@ -9,11 +9,9 @@ use Rattle.sheet.proofs.type_row.Reads as reads
 use Rattle.sheet.proofs.type_row.Lts as lts
 use Rattle.sheet.proofs.row_of_three.Reads as row-of-three-reads
 
--- src/lib.rt:124:5
 row-of-three-requires : tie.Need-row-of-three-requires
 row-of-three-requires c κs = search needs
 
--- src/lib.rt:120:1
 returns : tie.Need-returns
 returns c = c .row-of-three .ensures ∙ type-table (c .before .before .pre) (c .before .before .args .r)
 

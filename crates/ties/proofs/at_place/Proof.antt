@@ -8,21 +8,17 @@ use Rattle.ties.proofs.at_place.Tie as tie
 use Rattle.ties.proofs.at_place.Reads as reads
 use Rattle.ties.proofs.at_place.Lts as lts
 use Rattle.ties.proofs.at_point.Reads as at-point-reads
-use Rattle.ties.proofs.head.Reads as head-reads
+use Rattle.heads.proofs.head.Reads as head-reads
 
--- src/lib.rt:182:8
 head-requires : tie.Need-head-requires
 head-requires c κs = search needs
 
--- src/lib.rt:183:9
 at-point-requires : tie.Need-at-point-requires
 at-point-requires c κs = search needs
 
--- src/lib.rt:183:9
 returns : tie.Need-returns
 returns c = least-given (omega (arith, c .before .if1 .taken, c .before .before .head .ensures)) (c .at-point .ensures)
 
--- src/lib.rt:175:1
 returns-2 : tie.Need-returns-2
 returns-2 c = least-missing {R = PointTie (c .before .before .before .args .s .now) (setOf (c .before .before .before .args .behind .now) (c .before .before .before .args .i))} (λ z. omega (arith, z, c .if1 .left, c .before .head .ensures))
 

@@ -19,39 +19,30 @@ Inv-loop s l t k class same i₀ i = (i ≤ 576) × (i < 576 → inSet t k i ≡
 abbrev μ-loop : tie.MeasureT-loop
 μ-loop s l t k class same i₀ i = 576 - i
 
--- src/lib.rt:149:9
 lowest-both-requires : tie.Need-lowest-both-requires Inv-loop μ-loop
 lowest-both-requires c κs = ((c .before .pre .1 .1 .0), (c .before .pre .1 .1 .0))
 
--- src/lib.rt:150:5
 loop-holds : tie.Need-loop-holds Inv-loop μ-loop
 loop-holds c = (c .lowest-both .ensures .within, lowest-in (c .before .before .args .s .now) (c .before .before .args .t .now) (c .before .before .args .k) (c .lowest-both .ensures), below-none (c .before .before .args .s .now) (c .before .before .args .t .now) (c .before .before .args .k) (c .lowest-both .ensures))
 
--- src/lib.rt:151:13
 of-place-requires : tie.Need-of-place-requires Inv-loop μ-loop
 of-place-requires c κs = ((c .before .before .before .before .pre .0), ((c .before .before .before .before .pre .1 .0), (((c .before .before .before .before .pre .1 .1 .0), c .loop-test .taken), (c .before .loop .inv .1 (c .loop-test .taken), (c .before .before .before .before .pre .1 .1 .1)))))
 
--- src/lib.rt:153:13
 returns : tie.Need-returns Inv-loop μ-loop
 returns c = first-here (c .before .before .before .before .before .before .before .args .s .now) (c .before .before .before .before .before .before .before .args .t .now) (c .before .before .before .before .before .before .before .args .k) (c .before .before .before .before .loop .inv .2) (c .before .before .of-place .ensures) (c .if1 .taken)
 
--- src/lib.rt:155:43
 add-lowest-both : tie.Need-add-lowest-both Inv-loop μ-loop
 add-lowest-both c = omega (arith, c .before .before .before .loop-test .taken)
 
--- src/lib.rt:155:9
 lowest-both-requires-2 : tie.Need-lowest-both-requires-2 Inv-loop μ-loop
 lowest-both-requires-2 c κs = ((c .before .before .before .before .before .before .before .pre .1 .1 .0), (c .before .before .before .before .before .before .before .pre .1 .1 .0))
 
--- src/lib.rt:150:5
 loop-less : tie.Need-loop-less Inv-loop μ-loop
 loop-less c = omega (arith, lowest-from (c .before .before .before .before .before .before .before .before .args .s .now) (c .before .before .before .before .before .before .before .before .args .t .now) (c .before .before .before .before .before .before .before .before .args .k) (c .lowest-both2 .ensures) (omega (arith, c .before .before .before .before .loop-test .taken)), c .lowest-both2 .ensures .within, c .before .before .before .before .loop-test .taken)
 
--- src/lib.rt:150:5
 loop-again : tie.Need-loop-again Inv-loop μ-loop
 loop-again c = (c .lowest-both2 .ensures .within, lowest-in (c .before .before .before .before .before .before .before .before .args .s .now) (c .before .before .before .before .before .before .before .before .args .t .now) (c .before .before .before .before .before .before .before .before .args .k) (c .lowest-both2 .ensures), below-more (c .before .before .before .before .before .before .before .before .args .s .now) (c .before .before .before .before .before .before .before .before .args .t .now) (c .before .before .before .before .before .before .before .before .args .k) (c .before .before .before .before .before .loop .inv .2) (c .before .before .before .of-place .ensures) (c .before .if1 .left) (c .lowest-both2 .ensures))
 
--- src/lib.rt:142:1
 returns-2 : tie.Need-returns-2 Inv-loop μ-loop
 returns-2 c = none-here (c .before .before .before .before .args .s .now) (c .before .before .before .before .args .t .now) (c .before .before .before .before .args .k) (c .before .before .before .before .pre .0) (c .loop-test .left) (c .before .loop .inv .2)
 

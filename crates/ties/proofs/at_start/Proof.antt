@@ -10,19 +10,15 @@ use Rattle.ties.proofs.at_start.Reads as reads
 use Rattle.ties.proofs.at_start.Lts as lts
 use Rattle.ties.proofs.at_point.Reads as at-point-reads
 
--- src/lib.rt:168:8
 element-copy-out-if1 : tie.Need-element-copy-out-if1
 element-copy-out-if1 c = search needs
 
--- src/lib.rt:169:9
 at-point-requires : tie.Need-at-point-requires
 at-point-requires c κs = search needs
 
--- src/lib.rt:169:9
 returns : tie.Need-returns
 returns c = least-given (eq-eqb (getD (c .before .before .before .before .args .root .now) (c .before .before .before .before .args .i) 0) 1 (c .before .if1 .taken)) (c .at-point .ensures)
 
--- src/lib.rt:161:1
 returns-2 : tie.Need-returns-2
 returns-2 c = least-missing {R = PointTie (c .before .before .before .args .s .now) (setOf (c .before .before .before .args .first .now) (c .before .before .before .args .i))} (λ z. c .if1 .left (eqb-true (getD (c .before .before .before .args .root .now) (c .before .before .before .args .i) 0) 1 z))
 

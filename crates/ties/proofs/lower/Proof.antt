@@ -7,27 +7,21 @@ use Rattle.ties.proofs.lower.Tie as tie
 use Rattle.ties.proofs.lower.Reads as reads
 use Rattle.ties.proofs.lower.Lts as lts
 
--- src/lib.rt:102:9
 returns : tie.Need-returns
 returns c = no-found (c .if1 .taken) refl
 
--- src/lib.rt:105:9
 returns-2 : tie.Need-returns-2
 returns-2 c = no-best (c .if2 .taken) refl
 
--- src/lib.rt:108:9
 returns-3 : tie.Need-returns-3
 returns-3 c = found-row (c .before .before .before .before .before .if1 .left) (c .if3 .taken) refl
 
--- src/lib.rt:111:9
 returns-4 : tie.Need-returns-4
 returns-4 c = best-row (c .before .before .before .before .before .before .if2 .left) (c .if4 .taken) refl
 
--- src/lib.rt:114:9
 returns-5 : tie.Need-returns-5
 returns-5 c = found-rival (c .before .before .before .before .before .before .before .before .before .before .before .if1 .left) (omega (arith, c .before .before .before .before .before .before .if3 .left, c .before .before .before .if4 .left)) (c .if5 .taken) refl
 
--- src/lib.rt:98:1
 returns-6 : tie.Need-returns-6
 returns-6 c = best-rival (c .before .before .before .before .before .before .before .before .before .if2 .left) (omega (arith, c .before .before .before .before .before .before .if3 .left, c .before .before .before .if4 .left)) (c .if5 .left) refl
 

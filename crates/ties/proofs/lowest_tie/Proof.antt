@@ -5,7 +5,8 @@ use native.Mathlib.Omega.{arith}
 use lib.ListN.{length-replicate}
 use Rattle.barren.specs.Flags.{unset}
 use Rattle.places.specs.Tables.{clear-zeros}
-use Rattle.places.specs.Sheets.{laid-at, laid-rows}
+use Rattle.sheet.specs.Laid.{laid-at}
+use Rattle.places.specs.Sheets.{laid-rows}
 use Rattle.ties.specs.Sound.{free-rows, says-tie}
 use Rattle.ties.proofs.lowest_tie.Statement.{statement}
 use Rattle.ties.proofs.lowest_tie.Tie as tie
@@ -13,31 +14,25 @@ use Rattle.ties.proofs.lowest_tie.Reads as reads
 use Rattle.ties.proofs.lowest_tie.Lts as lts
 use Rattle.places.proofs.behinds.Reads as behinds-reads
 use Rattle.places.proofs.firsts.Reads as firsts-reads
-use Rattle.places.proofs.roots.Reads as roots-reads
-use Rattle.ties.proofs.classes.Reads as classes-reads
+use Rattle.roots.proofs.roots.Reads as roots-reads
+use Rattle.heads.proofs.classes.Reads as classes-reads
 use Rattle.ties.proofs.tie.Reads as tie-reads
 
--- src/lib.rt:219:5
 firsts-requires : tie.Need-firsts-requires
 firsts-requires c κs = (laid-rows (c .before .before .before .pre .1) (c .before .before .before .pre .0), (laid-at (c .before .before .before .pre .1), (length-replicate {A = ℕ} 513 0, clear-zeros)))
 
--- src/lib.rt:220:5
 roots-requires : tie.Need-roots-requires
 roots-requires c κs = ((c .before .before .before .before .before .pre .1), (length-replicate {A = ℕ} 513 0, unset 513))
 
--- src/lib.rt:221:5
 behinds-requires : tie.Need-behinds-requires
 behinds-requires c κs = (laid-rows (c .before .before .before .before .before .before .before .before .before .before .pre .1) (c .before .before .before .before .before .before .before .before .before .before .pre .0), (laid-at (c .before .before .before .before .before .before .before .before .before .before .pre .1), (omega arith, (c .before .before .before .before .before .before .firsts .ensures, (free-rows (c .before .before .before .before .before .before .before .before .before .before .pre .1) (c .before .before .before .before .before .before .before .before .before .before .pre .0) (c .before .before .before .before .roots .ensures), clear-zeros)))))
 
--- src/lib.rt:222:5
 classes-requires : tie.Need-classes-requires
 classes-requires c κs = ((c .before .before .before .before .before .before .before .before .before .before .before .before .before .pre .0), ((c .before .before .before .before .before .before .before .before .before .before .before .before .before .pre .1), (refl, clear-zeros)))
 
--- src/lib.rt:223:5
 tie-requires : tie.Need-tie-requires
 tie-requires c κs = ((c .before .before .before .before .before .before .before .before .before .before .before .before .before .before .before .before .before .before .before .pre .0), ((c .before .before .before .before .before .before .before .before .before .before .before .before .before .before .before .before .before .before .before .pre .1), c .before .before .before .before .before .classes .ensures))
 
--- src/lib.rt:208:1
 returns : tie.Need-returns
 returns c = says-tie (c .before .before .before .before .before .before .before .before .before .before .before .before .before .before .before .before .before .before .before .before .pre .1) (c .before .before .before .before .before .before .before .before .before .before .before .before .before .before .before .before .before .before .before .before .pre .0) (c .before .before .before .before .before .before .before .before .before .before .before .before .before .before .before .before .firsts .ensures) (c .before .before .before .before .before .before .before .before .before .before .before .before .before .before .roots .ensures) (c .before .before .before .before .before .before .before .before .before .behinds .ensures) (c .tie .ensures)
 

@@ -11,50 +11,39 @@ use Rattle.ties.proofs.of_place.Reads as reads
 use Rattle.ties.proofs.of_place.Lts as lts
 use Rattle.bits.proofs.count_both.Reads as count-both-reads
 use Rattle.bits.proofs.lowest_both.Reads as lowest-both-reads
-use Rattle.ties.proofs.head.Reads as head-reads
-use Rattle.ties.proofs.wide.Reads as wide-reads
+use Rattle.heads.proofs.head.Reads as head-reads
+use Rattle.heads.proofs.wide.Reads as wide-reads
 
--- src/lib.rt:128:9
 head-requires : tie.Need-head-requires
 head-requires c κs = search needs
 
--- src/lib.rt:130:9
 returns : tie.Need-returns
 returns c = of-none (c .before .before .before .args .s .now) (c .before .before .before .pre .0) (c .before .before .before .pre .1 .1 .1 .1) (c .before .before .before .args .t .now) (c .before .before .before .args .k) (c .before .before .before .args .i) (omega (arith, c .if1 .taken, c .before .head .ensures))
 
--- src/lib.rt:132:18
 mul-wide : tie.Need-mul-wide
 mul-wide c = search needs
 
--- src/lib.rt:132:18
 element-copy-out-wide : tie.Need-element-copy-out-wide
 element-copy-out-wide c = omega (arith, c .if1 .left)
 
--- src/lib.rt:132:9
 wide-requires : tie.Need-wide-requires
 wide-requires c κs = search needs
 
--- src/lib.rt:133:8
 count-both-requires : tie.Need-count-both-requires
 count-both-requires c κs = (c .before .before .before .before .before .pre .1 .1 .0 .0, omega (arith, c .wide .ensures, (c .before .before .before .before .before .pre .1 .1 .1 .1) .leader (c .before .before .before .head .result) (c .before .before .if1 .left), few-types (c .before .before .before .before .before .args .s .now) (c .before .before .before .before .before .pre .0)))
 
--- src/lib.rt:134:9
 returns-2 : tie.Need-returns-2
 returns-2 c = let e = (c .before .before .wide .ensures ∙ ap (λ h. getD (c .before .before .before .before .before .before .before .args .class .now) h 0) (c .before .before .before .before .before .head .ensures)) in of-single (c .before .before .before .before .before .before .before .args .s .now) (c .before .before .before .before .before .before .before .pre .0) (c .before .before .before .before .before .before .before .pre .1 .1 .1 .1) (c .before .before .before .before .before .before .before .args .t .now) (c .before .before .before .before .before .before .before .args .k) (c .before .before .before .before .before .before .before .args .i) (omega (arith, c .before .before .before .before .if1 .left, c .before .before .before .before .before .head .ensures)) (omega (arith, rw e at (c .before .count-both .ensures .0), c .if2 .taken))
 
--- src/lib.rt:136:9
 lowest-both-requires : tie.Need-lowest-both-requires
 lowest-both-requires c κs = (c .before .before .before .before .before .before .before .pre .1 .1 .0 .0, omega (arith, c .before .before .wide .ensures, (c .before .before .before .before .before .before .before .pre .1 .1 .1 .1) .leader (c .before .before .before .before .before .head .result) (c .before .before .before .before .if1 .left), few-types (c .before .before .before .before .before .before .before .args .s .now) (c .before .before .before .before .before .before .before .pre .0)))
 
--- src/lib.rt:137:50
 add-lowest-both : tie.Need-add-lowest-both
 add-lowest-both c = omega (arith, c .lowest-both .ensures .within)
 
--- src/lib.rt:137:9
 lowest-both-requires-2 : tie.Need-lowest-both-requires-2
 lowest-both-requires-2 c κs = (c .before .before .before .before .before .before .before .before .pre .1 .1 .0 .0, omega (arith, c .before .before .before .wide .ensures, (c .before .before .before .before .before .before .before .before .pre .1 .1 .1 .1) .leader (c .before .before .before .before .before .before .head .result) (c .before .before .before .before .before .if1 .left), few-types (c .before .before .before .before .before .before .before .before .args .s .now) (c .before .before .before .before .before .before .before .before .pre .0)))
 
--- src/lib.rt:120:1
 returns-3 : tie.Need-returns-3
 returns-3 c = let e = (c .before .before .before .before .wide .ensures ∙ ap (λ h. getD (c .before .before .before .before .before .before .before .before .before .args .class .now) h 0) (c .before .before .before .before .before .before .before .head .ensures)) in of-two (c .before .before .before .before .before .before .before .before .before .args .s .now) (c .before .before .before .before .before .before .before .before .before .pre .0) (c .before .before .before .before .before .before .before .before .before .pre .1 .1 .1 .1) (c .before .before .before .before .before .before .before .before .before .args .t .now) (c .before .before .before .before .before .before .before .before .before .args .k) (c .before .before .before .before .before .before .before .before .before .args .i) (omega (arith, c .before .before .before .before .before .before .if1 .left, c .before .before .before .before .before .before .before .head .ensures)) (c .before .before .before .before .before .before .before .before .before .pre .1 .1 .1 .0) (rw e at (c .before .lowest-both .ensures)) (rw e at (c .lowest-both2 .ensures)) (omega (arith, rw e at (c .before .before .before .count-both .ensures .0), c .before .before .if2 .left))
 

@@ -2,7 +2,7 @@
 use Prim.Native.Nat.{_≤_, _-_, _+_}
 use native.Mathlib.Omega.{arith}
 use borrow.Author.Needs.{needs}
-use Rattle.barren.specs.Rows.{types-high}
+use Rattle.sheet.specs.Counts.{types-high}
 use Rattle.ties.specs.Points.{Upto, Least, upto-none, upto-more, upto-all}
 use Rattle.ties.proofs.tie.Statement.{statement}
 use Rattle.ties.proofs.tie.Tie as tie
@@ -18,47 +18,36 @@ Inv-loop s l root first behind class same best₀ i₀ best i = (i ≤ l .types)
 abbrev μ-loop : tie.MeasureT-loop
 μ-loop s l root first behind class same best₀ i₀ best i = l .types - i
 
--- src/lib.rt:197:5
 loop-holds : tie.Need-loop-holds Inv-loop μ-loop
 loop-holds c = (omega arith, upto-none)
 
--- src/lib.rt:198:43
 add-at-start : tie.Need-add-at-start Inv-loop μ-loop
 add-at-start c = omega (arith, c .if1 .taken, (c .before .before .before .before .pre .1 .0) .few-types)
 
--- src/lib.rt:198:28
 at-start-requires : tie.Need-at-start-requires Inv-loop μ-loop
 at-start-requires c κs = ((c .before .before .before .before .pre .0), ((c .before .before .before .before .pre .1 .0), (types-high (c .before .before .before .before .pre .1 .0) {i = c .before .before .loop .i + 1} (c .before .before .before .before .pre .0) (omega (arith, c .if1 .taken)), (c .before .before .before .before .pre .1 .1))))
 
--- src/lib.rt:198:9
 lower-requires : tie.Need-lower-requires Inv-loop μ-loop
 lower-requires c κs = search needs
 
--- src/lib.rt:199:43
 add-at-place : tie.Need-add-at-place Inv-loop μ-loop
 add-at-place c = omega (arith, c .before .before .if1 .taken, (c .before .before .before .before .before .before .pre .1 .0) .few-types)
 
--- src/lib.rt:199:28
 at-place-requires : tie.Need-at-place-requires Inv-loop μ-loop
 at-place-requires c κs = ((c .before .before .before .before .before .before .pre .0), ((c .before .before .before .before .before .before .pre .1 .0), (types-high (c .before .before .before .before .before .before .pre .1 .0) {i = c .before .before .before .before .loop .i + 1} (c .before .before .before .before .before .before .pre .0) (omega (arith, c .before .before .if1 .taken)), (c .before .before .before .before .before .before .pre .1 .1))))
 
--- src/lib.rt:199:9
 lower-requires-2 : tie.Need-lower-requires-2 Inv-loop μ-loop
 lower-requires-2 c κs = search needs
 
--- src/lib.rt:200:9
 add-i : tie.Need-add-i Inv-loop μ-loop
 add-i c = omega (arith, c .before .before .before .before .if1 .taken, (c .before .before .before .before .before .before .before .before .pre .1 .0) .few-types)
 
--- src/lib.rt:197:5
 loop-less : tie.Need-loop-less Inv-loop μ-loop
 loop-less c = search needs
 
--- src/lib.rt:197:5
 loop-again : tie.Need-loop-again Inv-loop μ-loop
 loop-again c = (omega (arith, c .before .before .before .before .if1 .taken), upto-more (c .before .before .before .before .before .before .loop .inv .1) (c .before .before .before .at-start .ensures) (c .before .at-place .ensures) (c .before .before .lower .ensures) (c .lower2 .ensures))
 
--- src/lib.rt:189:1
 returns : tie.Need-returns Inv-loop μ-loop
 returns c = upto-all (c .before .before .before .before .pre .1 .0) (omega (arith, c .if1 .left, c .before .before .loop .inv .0)) (c .before .before .loop .inv .1)
 

@@ -6,7 +6,7 @@ use mathlib.Core.Bool.{not}
 use borrow.Author.Tests.{eq-eqb, ne-eqb}
 use lib.Dec.{eqb}
 use lib.ListN.{getD}
-use Rattle.kinds.specs.Turns.{Passed, none-yet, one-more, fails, passes}
+use Rattle.meaning.specs.Laws.Turns.{Passed, none-yet, one-more, fails, passes}
 use Rattle.users.proofs.all_one.Statement.{statement}
 use Rattle.users.proofs.all_one.Tie as tie
 use Rattle.users.proofs.all_one.Reads as reads
@@ -18,31 +18,24 @@ Inv-loop tally n i₀ i = Passed (λ k. eqb (getD tally k 0) 1) n i
 abbrev μ-loop : tie.MeasureT-loop
 μ-loop tally n i₀ i = n - i
 
--- src/lib.rt:228:5
 loop-holds : tie.Need-loop-holds Inv-loop μ-loop
 loop-holds c = none-yet (λ i. eqb (getD (c .args .tally .now) i 0) 1) (c .args .n)
 
--- src/lib.rt:229:9
 add-i : tie.Need-add-i Inv-loop μ-loop
 add-i c = omega arith
 
--- src/lib.rt:230:12
 element-copy-out-if1 : tie.Need-element-copy-out-if1 Inv-loop μ-loop
 element-copy-out-if1 c = omega arith
 
--- src/lib.rt:231:13
 returns : tie.Need-returns Inv-loop μ-loop
 returns c = sym (fails (λ i. eqb (getD (c .before .before .before .before .args .tally .now) i 0) 1) (c .before .before .before .before .args .n) (c .before .before .before .loop .i) (c .before .before .loop-test .taken) refl (ap not (ne-eqb (getD (c .before .before .before .before .args .tally .now) (c .before .before .before .loop .i + 1) 0) 1 (λ e. omega arith))))
 
--- src/lib.rt:228:5
 loop-less : tie.Need-loop-less Inv-loop μ-loop
 loop-less c = omega arith
 
--- src/lib.rt:228:5
 loop-again : tie.Need-loop-again Inv-loop μ-loop
 loop-again c = one-more (λ i. eqb (getD (c .before .before .before .before .args .tally .now) i 0) 1) (c .before .before .before .before .args .n) (c .before .before .before .loop .i) (c .before .before .before .loop .inv) (c .before .before .loop-test .taken) refl (ap not (eq-eqb (getD (c .before .before .before .before .args .tally .now) (c .before .before .before .loop .i + 1) 0) 1 (omega arith)))
 
--- src/lib.rt:223:1
 returns-2 : tie.Need-returns-2 Inv-loop μ-loop
 returns-2 c = sym (passes (λ i. eqb (getD (c .before .before .args .tally .now) i 0) 1) (c .before .before .args .n) (c .before .loop .i) (c .before .loop .inv) (c .loop-test .left))
 

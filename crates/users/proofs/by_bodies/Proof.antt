@@ -19,31 +19,24 @@ Inv-loop s l tally₀ i₀ tally i = Counting (λ r i. hit r (scriptOf s .proced
 abbrev μ-loop : tie.MeasureT-loop
 μ-loop s l tally₀ i₀ tally i = l .procedures - i
 
--- src/lib.rt:202:5
 loop-holds : tie.Need-loop-holds Inv-loop μ-loop
 loop-holds c = start (λ r i. hit r (scriptOf (c .before .args .s .now) .procedureRow i .body)) (c .before .args .l .procedures) (c .before .pre .1)
 
--- src/lib.rt:203:9
 add-i : tie.Need-add-i Inv-loop μ-loop
 add-i c = omega (arith, c .before .before .before .before .pre .0 .few-procedures)
 
--- src/lib.rt:204:13
 procedure-row-requires : tie.Need-procedure-row-requires Inv-loop μ-loop
 procedure-row-requires c κs = c .before .before .before .before .pre .0
 
--- src/lib.rt:205:9
 refer-requires : tie.Need-refer-requires Inv-loop μ-loop
 refer-requires c κs = c .before .before .before .before .loop .inv .added .tally
 
--- src/lib.rt:202:5
 loop-less : tie.Need-loop-less Inv-loop μ-loop
 loop-less c = omega arith
 
--- src/lib.rt:202:5
 loop-again : tie.Need-loop-again Inv-loop μ-loop
 loop-again c = turn (λ r i. hit r (scriptOf (c .before .before .before .before .before .before .before .args .s .now) .procedureRow i .body)) (c .before .before .before .before .before .before .before .args .l .procedures) (c .before .before .before .before .before .loop .i) (c .before .before .before .before .before .loop .inv) (c .before .before .before .if1 .taken) (subst (λ x. Added (c .before .before .before .before .before .loop .tally) (c .refer .last .0) (λ r. hit r (x .body))) (c .before .before .procedure-row .ensures) (c .refer .ensures))
 
--- src/lib.rt:196:1
 returns : tie.Need-returns Inv-loop μ-loop
 returns c = done (λ r i. hit r (scriptOf (c .before .before .before .before .args .s .now) .procedureRow i .body)) (c .before .before .before .before .args .l .procedures) (c .before .before .loop .i) (c .before .before .loop .inv) (c .if1 .left)
 

@@ -19,31 +19,24 @@ Inv-loop s l tally₀ i₀ tally i = Counting (λ r i. hit r (scriptOf s .nameRo
 abbrev μ-loop : tie.MeasureT-loop
 μ-loop s l tally₀ i₀ tally i = l .names - i
 
--- src/lib.rt:138:5
 loop-holds : tie.Need-loop-holds Inv-loop μ-loop
 loop-holds c = start (λ r i. hit r (scriptOf (c .before .args .s .now) .nameRow i)) (c .before .args .l .names) (c .before .pre .1)
 
--- src/lib.rt:139:9
 add-i : tie.Need-add-i Inv-loop μ-loop
 add-i c = omega (arith, c .before .before .before .before .pre .0 .few-names)
 
--- src/lib.rt:140:28
 name-row-requires : tie.Need-name-row-requires Inv-loop μ-loop
 name-row-requires c κs = c .before .before .before .before .before .pre .0
 
--- src/lib.rt:140:9
 refer-requires : tie.Need-refer-requires Inv-loop μ-loop
 refer-requires c κs = c .before .before .before .before .loop .inv .added .tally
 
--- src/lib.rt:138:5
 loop-less : tie.Need-loop-less Inv-loop μ-loop
 loop-less c = omega arith
 
--- src/lib.rt:138:5
 loop-again : tie.Need-loop-again Inv-loop μ-loop
 loop-again c = turn (λ r i. hit r (scriptOf (c .before .before .before .before .before .before .before .args .s .now) .nameRow i)) (c .before .before .before .before .before .before .before .args .l .names) (c .before .before .before .before .before .loop .i) (c .before .before .before .before .before .loop .inv) (c .before .before .before .if1 .taken) (subst (λ x. Added (c .before .before .before .before .before .loop .tally) (c .refer .last .0) (λ r. hit r x)) (c .before .name-row .ensures .0) (c .refer .ensures))
 
--- src/lib.rt:132:1
 returns : tie.Need-returns Inv-loop μ-loop
 returns c = done (λ r i. hit r (scriptOf (c .before .before .before .before .args .s .now) .nameRow i)) (c .before .before .before .before .args .l .names) (c .before .before .loop .i) (c .before .before .loop .inv) (c .if1 .left)
 

@@ -19,31 +19,24 @@ Inv-loop s l tally₀ i₀ tally i = Counting (λ r i. procedure-hits (sheetOf s
 abbrev μ-loop : tie.MeasureT-loop
 μ-loop s l tally₀ i₀ tally i = l .procedures - i
 
--- src/lib.rt:150:5
 loop-holds : tie.Need-loop-holds Inv-loop μ-loop
 loop-holds c = start (λ r i. procedure-hits (sheetOf (c .before .args .s .now)) r (scriptOf (c .before .args .s .now) .procedureRow i)) (c .before .args .l .procedures) (c .before .pre .1)
 
--- src/lib.rt:151:9
 add-i : tie.Need-add-i Inv-loop μ-loop
 add-i c = omega (arith, c .before .before .before .before .pre .0 .few-procedures)
 
--- src/lib.rt:152:32
 procedure-row-requires : tie.Need-procedure-row-requires Inv-loop μ-loop
 procedure-row-requires c κs = c .before .before .before .before .before .pre .0
 
--- src/lib.rt:152:9
 refer-procedure-requires : tie.Need-refer-procedure-requires Inv-loop μ-loop
 refer-procedure-requires c κs = c .before .before .before .before .loop .inv .added .tally
 
--- src/lib.rt:150:5
 loop-less : tie.Need-loop-less Inv-loop μ-loop
 loop-less c = omega arith
 
--- src/lib.rt:150:5
 loop-again : tie.Need-loop-again Inv-loop μ-loop
 loop-again c = turn (λ r i. procedure-hits (sheetOf (c .before .before .before .before .before .before .before .args .s .now)) r (scriptOf (c .before .before .before .before .before .before .before .args .s .now) .procedureRow i)) (c .before .before .before .before .before .before .before .args .l .procedures) (c .before .before .before .before .before .loop .i) (c .before .before .before .before .before .loop .inv) (c .before .before .before .if1 .taken) (subst (λ x. Added (c .before .before .before .before .before .loop .tally) (c .refer-procedure .last .0) (λ r. procedure-hits (sheetOf (c .before .before .before .before .before .before .before .args .s .now)) r x)) (c .before .procedure-row .ensures) (c .refer-procedure .ensures))
 
--- src/lib.rt:144:1
 returns : tie.Need-returns Inv-loop μ-loop
 returns c = done (λ r i. procedure-hits (sheetOf (c .before .before .before .before .args .s .now)) r (scriptOf (c .before .before .before .before .args .s .now) .procedureRow i)) (c .before .before .before .before .args .l .procedures) (c .before .before .loop .i) (c .before .before .loop .inv) (c .if1 .left)
 

@@ -18,35 +18,27 @@ Inv-loop s l tally₀ i₀ tally i = Counting (λ r i. hits own r (queryUses (sc
 abbrev μ-loop : tie.MeasureT-loop
 μ-loop s l tally₀ i₀ tally i = l .queries - i
 
--- src/lib.rt:162:5
 loop-holds : tie.Need-loop-holds Inv-loop μ-loop
 loop-holds c = start (λ r i. hits own r (queryUses (scriptOf (c .before .args .s .now) .queryRow i)) (scriptOf (c .before .args .s .now) .queryRow i)) (c .before .args .l .queries) (c .before .pre .1)
 
--- src/lib.rt:163:9
 add-i : tie.Need-add-i Inv-loop μ-loop
 add-i c = omega (arith, c .before .before .before .before .pre .0 .few-queries)
 
--- src/lib.rt:164:13
 query-row-requires : tie.Need-query-row-requires Inv-loop μ-loop
 query-row-requires c κs = c .before .before .before .before .pre .0
 
--- src/lib.rt:165:26
 query-uses-requires : tie.Need-query-uses-requires Inv-loop μ-loop
 query-uses-requires c κs = tt
 
--- src/lib.rt:165:9
 refer-own-requires : tie.Need-refer-own-requires Inv-loop μ-loop
 refer-own-requires c κs = c .before .before .before .before .before .loop .inv .added .tally
 
--- src/lib.rt:162:5
 loop-less : tie.Need-loop-less Inv-loop μ-loop
 loop-less c = omega arith
 
--- src/lib.rt:162:5
 loop-again : tie.Need-loop-again Inv-loop μ-loop
 loop-again c = turn (λ r i. hits own r (queryUses (scriptOf (c .before .before .before .before .before .before .before .before .args .s .now) .queryRow i)) (scriptOf (c .before .before .before .before .before .before .before .before .args .s .now) .queryRow i)) (c .before .before .before .before .before .before .before .before .args .l .queries) (c .before .before .before .before .before .before .loop .i) (c .before .before .before .before .before .before .loop .inv) (c .before .before .before .before .if1 .taken) (by-row own queryUses (c .refer-own .ensures) (c .before .query-uses .ensures .uses) (c .before .before .before .query-row .ensures .0))
 
--- src/lib.rt:156:1
 returns : tie.Need-returns Inv-loop μ-loop
 returns c = done (λ r i. hits own r (queryUses (scriptOf (c .before .before .before .before .args .s .now) .queryRow i)) (scriptOf (c .before .before .before .before .args .s .now) .queryRow i)) (c .before .before .before .before .args .l .queries) (c .before .before .loop .i) (c .before .before .loop .inv) (c .if1 .left)
 

@@ -18,35 +18,27 @@ Inv-loop s l tally₀ i₀ tally i = Counting (λ r i. hits own r (forestUses (g
 abbrev μ-loop : tie.MeasureT-loop
 μ-loop s l tally₀ i₀ tally i = l .rows - i
 
--- src/lib.rt:215:5
 loop-holds : tie.Need-loop-holds Inv-loop μ-loop
 loop-holds c = start (λ r i. hits own r (forestUses (groveOf (c .before .args .s .now) .row i)) (groveOf (c .before .args .s .now) .row i)) (c .before .args .l .rows) (c .before .pre .1)
 
--- src/lib.rt:216:9
 add-i : tie.Need-add-i Inv-loop μ-loop
 add-i c = omega (arith, c .before .before .before .before .pre .0 .few-rows)
 
--- src/lib.rt:217:13
 forest-row-requires : tie.Need-forest-row-requires Inv-loop μ-loop
 forest-row-requires c κs = c .before .before .before .before .pre .0
 
--- src/lib.rt:218:26
 forest-uses-requires : tie.Need-forest-uses-requires Inv-loop μ-loop
 forest-uses-requires c κs = tt
 
--- src/lib.rt:218:9
 refer-own-requires : tie.Need-refer-own-requires Inv-loop μ-loop
 refer-own-requires c κs = c .before .before .before .before .before .loop .inv .added .tally
 
--- src/lib.rt:215:5
 loop-less : tie.Need-loop-less Inv-loop μ-loop
 loop-less c = omega arith
 
--- src/lib.rt:215:5
 loop-again : tie.Need-loop-again Inv-loop μ-loop
 loop-again c = turn (λ r i. hits own r (forestUses (groveOf (c .before .before .before .before .before .before .before .before .args .s .now) .row i)) (groveOf (c .before .before .before .before .before .before .before .before .args .s .now) .row i)) (c .before .before .before .before .before .before .before .before .args .l .rows) (c .before .before .before .before .before .before .loop .i) (c .before .before .before .before .before .before .loop .inv) (c .before .before .before .before .if1 .taken) (by-row own forestUses (c .refer-own .ensures) (c .before .forest-uses .ensures .uses) (c .before .before .before .forest-row .ensures))
 
--- src/lib.rt:209:1
 returns : tie.Need-returns Inv-loop μ-loop
 returns c = done (λ r i. hits own r (forestUses (groveOf (c .before .before .before .before .args .s .now) .row i)) (groveOf (c .before .before .before .before .args .s .now) .row i)) (c .before .before .before .before .args .l .rows) (c .before .before .loop .i) (c .before .before .loop .inv) (c .if1 .left)
 

@@ -18,35 +18,27 @@ Inv-loop s l tally₀ i₀ tally i = Counting (λ r i. hits own r ((statementUse
 abbrev μ-loop : tie.MeasureT-loop
 μ-loop s l tally₀ i₀ tally i = l .statements - i
 
--- src/lib.rt:189:5
 loop-holds : tie.Need-loop-holds Inv-loop μ-loop
 loop-holds c = start (λ r i. hits own r ((statementUses (scriptOf (c .before .args .s .now) .procedureRow)) (scriptOf (c .before .args .s .now) .statementRow i)) (scriptOf (c .before .args .s .now) .statementRow i)) (c .before .args .l .statements) (c .before .pre .1)
 
--- src/lib.rt:190:9
 add-i : tie.Need-add-i Inv-loop μ-loop
 add-i c = omega (arith, c .before .before .before .before .pre .0 .few-statements)
 
--- src/lib.rt:191:13
 statement-row-requires : tie.Need-statement-row-requires Inv-loop μ-loop
 statement-row-requires c κs = c .before .before .before .before .pre .0
 
--- src/lib.rt:192:26
 statement-uses-requires : tie.Need-statement-uses-requires Inv-loop μ-loop
 statement-uses-requires c κs = c .before .before .before .before .before .before .pre .0
 
--- src/lib.rt:192:9
 refer-own-requires : tie.Need-refer-own-requires Inv-loop μ-loop
 refer-own-requires c κs = c .before .before .before .before .before .loop .inv .added .tally
 
--- src/lib.rt:189:5
 loop-less : tie.Need-loop-less Inv-loop μ-loop
 loop-less c = omega arith
 
--- src/lib.rt:189:5
 loop-again : tie.Need-loop-again Inv-loop μ-loop
 loop-again c = turn (λ r i. hits own r ((statementUses (scriptOf (c .before .before .before .before .before .before .before .before .args .s .now) .procedureRow)) (scriptOf (c .before .before .before .before .before .before .before .before .args .s .now) .statementRow i)) (scriptOf (c .before .before .before .before .before .before .before .before .args .s .now) .statementRow i)) (c .before .before .before .before .before .before .before .before .args .l .statements) (c .before .before .before .before .before .before .loop .i) (c .before .before .before .before .before .before .loop .inv) (c .before .before .before .before .if1 .taken) (by-row own (statementUses (scriptOf (c .before .before .before .before .before .before .before .before .args .s .now) .procedureRow)) (c .refer-own .ensures) (c .before .statement-uses .ensures .uses) (c .before .before .before .statement-row .ensures .0))
 
--- src/lib.rt:183:1
 returns : tie.Need-returns Inv-loop μ-loop
 returns c = done (λ r i. hits own r ((statementUses (scriptOf (c .before .before .before .before .args .s .now) .procedureRow)) (scriptOf (c .before .before .before .before .args .s .now) .statementRow i)) (scriptOf (c .before .before .before .before .args .s .now) .statementRow i)) (c .before .before .before .before .args .l .statements) (c .before .before .loop .i) (c .before .before .loop .inv) (c .if1 .left)
 

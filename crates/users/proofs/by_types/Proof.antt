@@ -18,35 +18,27 @@ Inv-loop s l tally₀ i₀ tally i = Counting (λ r i. hits own r (typeUses (scr
 abbrev μ-loop : tie.MeasureT-loop
 μ-loop s l tally₀ i₀ tally i = l .types - i
 
--- src/lib.rt:125:5
 loop-holds : tie.Need-loop-holds Inv-loop μ-loop
 loop-holds c = start (λ r i. hits own r (typeUses (scriptOf (c .before .args .s .now) .typeRow i)) (scriptOf (c .before .args .s .now) .typeRow i)) (c .before .args .l .types) (c .before .pre .1)
 
--- src/lib.rt:126:9
 add-i : tie.Need-add-i Inv-loop μ-loop
 add-i c = omega (arith, c .before .before .before .before .pre .0 .few-types)
 
--- src/lib.rt:127:13
 type-row-requires : tie.Need-type-row-requires Inv-loop μ-loop
 type-row-requires c κs = c .before .before .before .before .pre .0
 
--- src/lib.rt:128:26
 type-uses-requires : tie.Need-type-uses-requires Inv-loop μ-loop
 type-uses-requires c κs = tt
 
--- src/lib.rt:128:9
 refer-own-requires : tie.Need-refer-own-requires Inv-loop μ-loop
 refer-own-requires c κs = c .before .before .before .before .before .loop .inv .added .tally
 
--- src/lib.rt:125:5
 loop-less : tie.Need-loop-less Inv-loop μ-loop
 loop-less c = omega arith
 
--- src/lib.rt:125:5
 loop-again : tie.Need-loop-again Inv-loop μ-loop
 loop-again c = turn (λ r i. hits own r (typeUses (scriptOf (c .before .before .before .before .before .before .before .before .args .s .now) .typeRow i)) (scriptOf (c .before .before .before .before .before .before .before .before .args .s .now) .typeRow i)) (c .before .before .before .before .before .before .before .before .args .l .types) (c .before .before .before .before .before .before .loop .i) (c .before .before .before .before .before .before .loop .inv) (c .before .before .before .before .if1 .taken) (by-row own typeUses (c .refer-own .ensures) (c .before .type-uses .ensures .uses) (c .before .before .before .type-row .ensures))
 
--- src/lib.rt:119:1
 returns : tie.Need-returns Inv-loop μ-loop
 returns c = done (λ r i. hits own r (typeUses (scriptOf (c .before .before .before .before .args .s .now) .typeRow i)) (scriptOf (c .before .before .before .before .args .s .now) .typeRow i)) (c .before .before .before .before .args .l .types) (c .before .before .loop .i) (c .before .before .loop .inv) (c .if1 .left)
 

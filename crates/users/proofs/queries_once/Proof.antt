@@ -12,19 +12,15 @@ use Rattle.users.proofs.all_one.Reads as all-one-reads
 use Rattle.users.proofs.by_askers.Reads as by-askers-reads
 use Rattle.users.proofs.by_queries.Reads as by-queries-reads
 
--- src/lib.rt:257:5
 by-queries-requires : tie.Need-by-queries-requires
 by-queries-requires c κs = (c .before .before .pre .0, fresh)
 
--- src/lib.rt:258:5
 by-askers-requires : tie.Need-by-askers-requires
 by-askers-requires c κs = search needs
 
--- src/lib.rt:259:5
 all-one-requires : tie.Need-all-one-requires
 all-one-requires c κs = search needs
 
--- src/lib.rt:251:1
 returns : tie.Need-returns
 returns c = counted (query-users (sheetOf (c .before .before .before .before .before .before .before .args .s .now))) (c .before .before .before .before .before .before .before .args .l .queries) (c .before .before .before .before .before .before .before .pre .1) (then (c .before .before .before .before .by-queries .ensures) (c .before .before .by-askers .ensures)) (query-users-are (c .before .before .before .before .before .before .before .pre .0)) (c .all-one .ensures)
 

@@ -6,35 +6,27 @@ use Rattle.users.proofs.refer.Tie as tie
 use Rattle.users.proofs.refer.Reads as reads
 use Rattle.users.proofs.refer.Lts as lts
 
--- src/lib.rt:61:16
 element-copy-out-if3 : tie.Need-element-copy-out-if3
 element-copy-out-if3 c = omega (arith, c .before .before .pre .size)
 
--- src/lib.rt:62:28
 element-copy-out-tally : tie.Need-element-copy-out-tally
 element-copy-out-tally c = omega (arith, c .before .before .before .before .pre .size)
 
--- src/lib.rt:62:28
 add-tally : tie.Need-add-tally
 add-tally c = omega arith
 
--- src/lib.rt:62:17
 element-write-tally : tie.Need-element-write-tally
 element-write-tally c = omega (arith, c .before .before .before .before .before .pre .size)
 
--- src/lib.rt:55:1
 returns : tie.Need-returns
 returns c = one-more (c .before .before .before .before .before .pre) (c .before .before .before .before .before .args .w) (c .before .before .before .before .if1 .taken) (omega arith) (omega arith)
 
--- src/lib.rt:55:1
 returns-2 : tie.Need-returns-2
 returns-2 c = enough (c .before .before .before .before .pre) (c .before .before .before .before .args .w) (c .before .before .before .if1 .taken) (omega arith)
 
--- src/lib.rt:55:1
 returns-3 : tie.Need-returns-3
 returns-3 c = too-far (c .before .before .pre) (c .before .before .args .w) (c .before .if1 .taken) (omega arith)
 
--- src/lib.rt:55:1
 returns-4 : tie.Need-returns-4
 returns-4 c = not-so (c .before .pre) (c .before .args .w) (c .if1 .left)
 

@@ -11,40 +11,31 @@ use Rattle.users.proofs.refer_asking.Lts as lts
 use Rattle.users.proofs.asking.Reads as asking-reads
 use Rattle.users.proofs.refer_words.Reads as refer-words-reads
 
--- src/lib.rt:98:22
 enum-known-k : tie.Need-enum-known-k
 enum-known-k c = search needs
 
--- src/lib.rt:102:32
 asking-requires : tie.Need-asking-requires
 asking-requires c κs = search needs
 
--- src/lib.rt:102:43
 asking-requires-2 : tie.Need-asking-requires-2
 asking-requires-2 c κs = search needs
 
--- src/lib.rt:102:54
 asking-requires-3 : tie.Need-asking-requires-3
 asking-requires-3 c κs = search needs
 
--- src/lib.rt:102:13
 refer-words-requires : tie.Need-refer-words-requires
 refer-words-requires c κs = search needs
 
--- src/lib.rt:104:39
 enum-told : tie.Need-enum-told
 enum-told c = search needs
 
--- src/lib.rt:104:27
 refer-words-requires-2 : tie.Need-refer-words-requires-2
 refer-words-requires-2 c κs = search needs
 
--- src/lib.rt:93:1
 returns : tie.Need-returns
 unfolding asking
 returns c = written (λ r. hits asking r (usesIn (c .before .before .before .before .before .before .before .before .args .k)) (cellsOf (c .before .before .before .before .before .before .before .before .args .c))) (c .refer-words .ensures) (λ r. rw (c .before .before .before .before .before .before .k .given .1, c .before .before .before .asking .ensures, c .before .before .asking2 .ensures, c .before .asking3 .ensures))
 
--- src/lib.rt:93:1
 returns-2 : tie.Need-returns-2
 unfolding asking
 returns-2 c = written (λ r. hits asking r (usesIn (c .before .before .before .before .args .k)) (cellsOf (c .before .before .before .before .args .c))) (c .refer-words2 .ensures) (λ r. rw (c .before .before .enum-told .given .1))

@@ -11,40 +11,31 @@ use Rattle.users.proofs.refer_own.Lts as lts
 use Rattle.users.proofs.own.Reads as own-reads
 use Rattle.users.proofs.refer_words.Reads as refer-words-reads
 
--- src/lib.rt:83:22
 enum-known-k : tie.Need-enum-known-k
 enum-known-k c = search needs
 
--- src/lib.rt:87:32
 own-requires : tie.Need-own-requires
 own-requires c κs = search needs
 
--- src/lib.rt:87:40
 own-requires-2 : tie.Need-own-requires-2
 own-requires-2 c κs = search needs
 
--- src/lib.rt:87:48
 own-requires-3 : tie.Need-own-requires-3
 own-requires-3 c κs = search needs
 
--- src/lib.rt:87:13
 refer-words-requires : tie.Need-refer-words-requires
 refer-words-requires c κs = search needs
 
--- src/lib.rt:89:39
 enum-told : tie.Need-enum-told
 enum-told c = search needs
 
--- src/lib.rt:89:27
 refer-words-requires-2 : tie.Need-refer-words-requires-2
 refer-words-requires-2 c κs = search needs
 
--- src/lib.rt:78:1
 returns : tie.Need-returns
 unfolding own
 returns c = written (λ r. hits own r (usesIn (c .before .before .before .before .before .before .before .before .args .k)) (cellsOf (c .before .before .before .before .before .before .before .before .args .c))) (c .refer-words .ensures) (λ r. rw (c .before .before .before .before .before .before .k .given .1, c .before .before .before .own .ensures, c .before .before .own2 .ensures, c .before .own3 .ensures))
 
--- src/lib.rt:78:1
 returns-2 : tie.Need-returns-2
 unfolding own
 returns-2 c = written (λ r. hits own r (usesIn (c .before .before .before .before .args .k)) (cellsOf (c .before .before .before .before .args .c))) (c .refer-words2 .ensures) (λ r. rw (c .before .before .enum-told .given .1))

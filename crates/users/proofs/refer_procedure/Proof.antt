@@ -7,23 +7,18 @@ use Rattle.users.proofs.refer_procedure.Reads as reads
 use Rattle.users.proofs.refer_procedure.Lts as lts
 use Rattle.users.proofs.refer.Reads as refer-reads
 
--- src/lib.rt:113:5
 refer-requires : tie.Need-refer-requires
 refer-requires c κs = search needs
 
--- src/lib.rt:114:5
 refer-requires-2 : tie.Need-refer-requires-2
 refer-requires-2 c κs = search needs
 
--- src/lib.rt:115:5
 refer-requires-3 : tie.Need-refer-requires-3
 refer-requires-3 c κs = search needs
 
--- src/lib.rt:116:5
 refer-requires-4 : tie.Need-refer-requires-4
 refer-requires-4 c κs = search needs
 
--- src/lib.rt:109:1
 returns : tie.Need-returns
 returns c = then (then (then (c .before .before .before .before .before .before .refer .ensures) (c .before .before .before .before .refer2 .ensures)) (c .before .before .refer3 .ensures)) (c .refer4 .ensures)
 

@@ -7,19 +7,15 @@ use Rattle.users.proofs.refer_words.Reads as reads
 use Rattle.users.proofs.refer_words.Lts as lts
 use Rattle.users.proofs.refer.Reads as refer-reads
 
--- src/lib.rt:73:5
 refer-requires : tie.Need-refer-requires
 refer-requires c κs = search needs
 
--- src/lib.rt:74:5
 refer-requires-2 : tie.Need-refer-requires-2
 refer-requires-2 c κs = search needs
 
--- src/lib.rt:75:5
 refer-requires-3 : tie.Need-refer-requires-3
 refer-requires-3 c κs = search needs
 
--- src/lib.rt:69:1
 returns : tie.Need-returns
 returns c = then (then (c .before .before .before .before .refer .ensures) (c .before .before .refer2 .ensures)) (c .refer3 .ensures)
 

@@ -12,19 +12,15 @@ use Rattle.users.proofs.all_one.Reads as all-one-reads
 use Rattle.users.proofs.by_rows.Reads as by-rows-reads
 use Rattle.users.proofs.refer.Reads as refer-reads
 
--- src/lib.rt:280:5
 by-rows-requires : tie.Need-by-rows-requires
 by-rows-requires c κs = (c .before .before .pre .0, fresh)
 
--- src/lib.rt:281:5
 refer-requires : tie.Need-refer-requires
 refer-requires c κs = search needs
 
--- src/lib.rt:282:5
 all-one-requires : tie.Need-all-one-requires
 all-one-requires c κs = search needs
 
--- src/lib.rt:274:1
 returns : tie.Need-returns
 returns c = counted (row-users (sheetOf (c .before .before .before .before .before .before .before .args .s .now))) (c .before .before .before .before .before .before .before .args .l .rows) (c .before .before .before .before .before .before .before .pre .1) (then (c .before .before .before .before .by-rows .ensures) (c .before .before .refer .ensures)) (row-users-are (c .before .before .before .before .before .before .before .pre .0)) (c .all-one .ensures)
 

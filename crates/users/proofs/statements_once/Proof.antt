@@ -13,23 +13,18 @@ use Rattle.users.proofs.by_bodies.Reads as by-bodies-reads
 use Rattle.users.proofs.by_statements.Reads as by-statements-reads
 use Rattle.users.proofs.refer.Reads as refer-reads
 
--- src/lib.rt:268:5
 by-statements-requires : tie.Need-by-statements-requires
 by-statements-requires c κs = (c .before .before .pre .0, fresh)
 
--- src/lib.rt:269:5
 by-bodies-requires : tie.Need-by-bodies-requires
 by-bodies-requires c κs = search needs
 
--- src/lib.rt:270:5
 refer-requires : tie.Need-refer-requires
 refer-requires c κs = search needs
 
--- src/lib.rt:271:5
 all-one-requires : tie.Need-all-one-requires
 all-one-requires c κs = search needs
 
--- src/lib.rt:262:1
 returns : tie.Need-returns
 returns c = counted (statement-users (sheetOf (c .before .before .before .before .before .before .before .before .before .args .s .now))) (c .before .before .before .before .before .before .before .before .before .args .l .statements) (c .before .before .before .before .before .before .before .before .before .pre .1) (then (then (c .before .before .before .before .before .before .by-statements .ensures) (c .before .before .before .before .by-bodies .ensures)) (c .before .before .refer .ensures)) (statement-users-are (c .before .before .before .before .before .before .before .before .before .pre .0)) (c .all-one .ensures)
 

@@ -14,31 +14,24 @@ use Rattle.users.proofs.by_procedures.Reads as by-procedures-reads
 use Rattle.users.proofs.by_types.Reads as by-types-reads
 use Rattle.users.proofs.refer.Reads as refer-reads
 
--- src/lib.rt:243:5
 by-types-requires : tie.Need-by-types-requires
 by-types-requires c κs = (c .before .before .pre .0, fresh)
 
--- src/lib.rt:244:5
 by-names-requires : tie.Need-by-names-requires
 by-names-requires c κs = search needs
 
--- src/lib.rt:245:5
 by-procedures-requires : tie.Need-by-procedures-requires
 by-procedures-requires c κs = search needs
 
--- src/lib.rt:246:5
 refer-requires : tie.Need-refer-requires
 refer-requires c κs = search needs
 
--- src/lib.rt:247:5
 refer-requires-2 : tie.Need-refer-requires-2
 refer-requires-2 c κs = search needs
 
--- src/lib.rt:248:5
 all-one-requires : tie.Need-all-one-requires
 all-one-requires c κs = search needs
 
--- src/lib.rt:237:1
 returns : tie.Need-returns
 returns c = counted (type-users (sheetOf (c .before .before .before .before .before .before .before .before .before .before .before .before .before .args .s .now))) (c .before .before .before .before .before .before .before .before .before .before .before .before .before .args .l .types) (c .before .before .before .before .before .before .before .before .before .before .before .before .before .pre .1) (then (then (then (then (c .before .before .before .before .before .before .before .before .before .before .by-types .ensures) (c .before .before .before .before .before .before .before .before .by-names .ensures)) (c .before .before .before .before .before .before .by-procedures .ensures)) (c .before .before .before .before .refer .ensures)) (c .before .before .refer2 .ensures)) (type-users-are (c .before .before .before .before .before .before .before .before .before .before .before .before .before .pre .0)) (c .all-one .ensures)
 

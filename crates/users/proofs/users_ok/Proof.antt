@@ -10,35 +10,27 @@ use Rattle.users.proofs.rows_once.Reads as rows-once-reads
 use Rattle.users.proofs.statements_once.Reads as statements-once-reads
 use Rattle.users.proofs.types_once.Reads as types-once-reads
 
--- src/lib.rt:291:9
 types-once-requires : tie.Need-types-once-requires
 types-once-requires c κs = (c .before .pre .0, few (c .before .pre .0) (c .before .pre .1) .types)
 
--- src/lib.rt:292:9
 returns : tie.Need-returns
 returns c = rw (users-are (c .before .before .before .pre .0), ← (c .before .types-once .ensures), not-true (c .before .types-once .result) (c .if1 .taken))
 
--- src/lib.rt:294:9
 queries-once-requires : tie.Need-queries-once-requires
 queries-once-requires c κs = (c .before .before .before .pre .0, few (c .before .before .before .pre .0) (c .before .before .before .pre .1) .queries)
 
--- src/lib.rt:295:9
 returns-2 : tie.Need-returns-2
 returns-2 c = rw (users-are (c .before .before .before .before .before .pre .0), ← (c .before .before .before .types-once .ensures), ← (c .before .queries-once .ensures), not-false (c .before .before .before .types-once .result) (c .before .before .if1 .left), not-true (c .before .queries-once .result) (c .if2 .taken))
 
--- src/lib.rt:297:9
 statements-once-requires : tie.Need-statements-once-requires
 statements-once-requires c κs = (c .before .before .before .before .before .pre .0, few (c .before .before .before .before .before .pre .0) (c .before .before .before .before .before .pre .1) .statements)
 
--- src/lib.rt:298:9
 returns-3 : tie.Need-returns-3
 returns-3 c = rw (users-are (c .before .before .before .before .before .before .before .pre .0), ← (c .before .before .before .before .before .types-once .ensures), ← (c .before .before .before .queries-once .ensures), ← (c .before .statements-once .ensures), not-false (c .before .before .before .before .before .types-once .result) (c .before .before .before .before .if1 .left), not-false (c .before .before .before .queries-once .result) (c .before .before .if2 .left), not-true (c .before .statements-once .result) (c .if3 .taken))
 
--- src/lib.rt:300:5
 rows-once-requires : tie.Need-rows-once-requires
 rows-once-requires c κs = (c .before .before .before .before .before .before .before .pre .0, few (c .before .before .before .before .before .before .before .pre .0) (c .before .before .before .before .before .before .before .pre .1) .rows)
 
--- src/lib.rt:286:1
 returns-4 : tie.Need-returns-4
 returns-4 c = rw (users-are (c .before .before .before .before .before .before .before .before .pre .0), ← (c .before .before .before .before .before .before .types-once .ensures), ← (c .before .before .before .before .queries-once .ensures), ← (c .before .before .statements-once .ensures), ← (c .rows-once .ensures), not-false (c .before .before .before .before .before .before .types-once .result) (c .before .before .before .before .before .if1 .left), not-false (c .before .before .before .before .queries-once .result) (c .before .before .before .if2 .left), not-false (c .before .before .statements-once .result) (c .before .if3 .left))
 

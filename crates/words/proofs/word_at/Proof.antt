@@ -8,51 +8,39 @@ use Rattle.words.proofs.word_at.Reads as reads
 use Rattle.words.proofs.word_at.Lts as lts
 use Rattle.words.proofs.wide.Reads as wide-reads
 
--- src/lib.rt:22:14
 mul-at : tie.Need-mul-at
 mul-at c = search needs
 
--- src/lib.rt:24:9
 returns : tie.Need-returns
 returns c = let e = past-end (c .before .before .args .b .now) (c .before .before .args .i) (omega arith) in omega arith
 
--- src/lib.rt:26:20
 shared-slice-read-wide : tie.Need-shared-slice-read-wide
 shared-slice-read-wide c = search needs
 
--- src/lib.rt:26:9
 wide-requires : tie.Need-wide-requires
 wide-requires c κs = search needs
 
--- src/lib.rt:27:19
 add-if2 : tie.Need-add-if2
 add-if2 c = search needs
 
--- src/lib.rt:28:9
 returns-2 : tie.Need-returns-2
 returns-2 c = let e = cut (c .before .before .before .before .before .args .b .now) (c .before .before .before .before .before .args .i) (omega arith) in omega arith
 
--- src/lib.rt:30:24
 add-wide : tie.Need-add-wide
 add-wide c = search needs
 
--- src/lib.rt:30:22
 shared-slice-read-wide-2 : tie.Need-shared-slice-read-wide-2
 shared-slice-read-wide-2 c = search needs
 
--- src/lib.rt:30:17
 wide-requires-2 : tie.Need-wide-requires-2
 wide-requires-2 c κs = search needs
 
--- src/lib.rt:30:11
 mul-result : tie.Need-mul-result
 mul-result c = search needs
 
--- src/lib.rt:30:5
 add-result : tie.Need-add-result
 add-result c = search needs
 
--- src/lib.rt:17:1
 returns-3 : tie.Need-returns-3
 returns-3 c = search needs
 

@@ -15,23 +15,18 @@ Inv-loop b₀ i₀ b i = (b ≡ zeros b₀ i) × (length b ≡ length b₀) × (
 abbrev μ-loop : tie.MeasureT-loop
 μ-loop b₀ i₀ b i = length b₀ - i
 
--- src/lib.rt:47:5
 loop-holds : tie.Need-loop-holds Inv-loop μ-loop
 loop-holds c = (sym (zeros-none (c .args .b .now)), refl, omega arith)
 
--- src/lib.rt:48:9
 slice-write-b : tie.Need-slice-write-b Inv-loop μ-loop
 slice-write-b c = omega arith
 
--- src/lib.rt:49:9
 add-i : tie.Need-add-i Inv-loop μ-loop
 add-i c = omega arith
 
--- src/lib.rt:47:5
 loop-less : tie.Need-loop-less Inv-loop μ-loop
 loop-less c = omega arith
 
--- src/lib.rt:47:5
 loop-again : tie.Need-loop-again Inv-loop μ-loop
 loop-again c = (
   rw (c .before .loop .inv .0) (zeros-more (c .before .before .args .b .now) (c .before .loop .i) (omega arith)),
@@ -39,11 +34,9 @@ loop-again c = (
   omega arith,
 )
 
--- src/lib.rt:43:1
 same-length : tie.Need-same-length Inv-loop μ-loop
 same-length c = c .before .loop .inv .1
 
--- src/lib.rt:43:1
 returns : tie.Need-returns Inv-loop μ-loop
 returns c =
     let e : c .before .loop .i ≡ length (c .before .before .args .b .now) = omega arith in

@@ -1,4 +1,4 @@
--- The cycle of statements: the remaining depth falls from a statement row to the parts of its rule; a loop stands above its turns, a turn above its body.
+-- The cycle's measures and claims: the remaining depth falls from a row to the parts of its rule; what stands above a part at one depth has the greater measure.
 use Prim.Native.Nat.{ℕ, _<_, _+_, _*_}
 use borrow.Fn.Kinds.{In}
 use borrow.Fn.PlainCycle.{Measures, is, falls, and}

@@ -20,7 +20,7 @@ enum-known-label : (t : ℕ) → lts.Need-enum-known-label (children-claims t) (
 enum-known-label t c = search needs
 
 statement-requires : (t : ℕ) → lts.Need-statement-requires (children-claims t) (children-at t) children-reads.Post
-statement-requires t c κs = let a = c .before .before .before .before .before .before .before .before .args in let h = c .before .before .before .before .before .before .before .before .pre .1 in let r = h .asks .ready in let n = (sees-node (c .before .before .label .given .1) (c .before .before .before .before .look .ensures (pool (a .s .now)))) in (omega (arith, c .before .before .before .before .before .before .before .before .pre .0), edits-part h _ (omega (arith, n .inside, r .focus)) (fits-children (a .s .now) (a .depth) (a .scope) (a .p) (h .asks .scope)))
+statement-requires t c κs = let the-pre = c .before .before .before .before .before .before .before .before .pre in let a = c .before .before .before .before .before .before .before .before .args in let h = the-pre .1 in let r = h .asks .ready in let n = (sees-node (c .before .before .label .given .1) (c .before .before .before .before .look .ensures (pool (a .s .now)))) in (omega (arith, the-pre .0), edits-part h _ (omega (arith, n .inside, r .focus)) (fits-children (a .s .now) (a .depth) (a .scope) (a .p) (h .asks .scope)))
 
 enum-known-why : (t : ℕ) → lts.Need-enum-known-why (children-claims t) (children-at t) children-reads.Post
 enum-known-why t c = search needs
@@ -29,7 +29,7 @@ enum-known-root : (t : ℕ) → lts.Need-enum-known-root (children-claims t) (ch
 enum-known-root t c = search needs
 
 make-requires : (t : ℕ) → lts.Need-make-requires (children-claims t) (children-at t) children-reads.Post
-make-requires t c κs = let a = c .before .before .before .before .before .before .before .before .before .before .before .before .before .before .before .args in let h = c .before .before .before .before .before .before .before .before .before .before .before .before .before .before .before .pre .1 in let r = h .asks .ready in let f = (ran-done (c .before .before .root .given .1) (c .before .before .before .before .before .before .statement .ensures)) in let n = (sees-node (c .before .before .before .before .before .before .before .before .before .label .given .1) (c .before .before .before .before .before .before .before .before .before .before .before .look .ensures (pool (a .s .now)))) in node-asks _ _ (roomy-after (r .roomy) (c .before .before .before .before .before .before .statement .kept .1 .1 .0) f) (n .label) (f .inside)
+make-requires t c κs = let the-statement = c .before .before .before .before .before .before .statement in let a = c .before .before .before .before .before .before .before .before .before .before .before .before .before .before .before .args in let h = c .before .before .before .before .before .before .before .before .before .before .before .before .before .before .before .pre .1 in let r = h .asks .ready in let f = (ran-done (c .before .before .root .given .1) (the-statement .ensures)) in let n = (sees-node (c .before .before .before .before .before .before .before .before .before .label .given .1) (c .before .before .before .before .before .before .before .before .before .before .before .look .ensures (pool (a .s .now)))) in node-asks _ _ (roomy-after (r .roomy) (the-statement .kept .1 .1 .0) f) (n .label) (f .inside)
 
 enum-told : (t : ℕ) → lts.Need-enum-told (children-claims t) (children-at t) children-reads.Post
 enum-told t c = search needs

@@ -23,16 +23,16 @@ enum-known-root : (t : ℕ) → lts.Need-enum-known-root (choose-claims t) (choo
 enum-known-root t c = search needs
 
 look-requires : (t : ℕ) → lts.Need-look-requires (choose-claims t) (choose-at t) choose-reads.Post
-look-requires t c κs = let a = c .before .before .before .before .before .before .before .before .before .before .args in let h = c .before .before .before .before .before .before .before .before .before .before .pre .1 in let r = h .asks .ready in let f = (ran-done (c .before .before .root .given .1) (c .before .before .before .before .before .before .query .ensures)) in readable _ (roomy-after (r .roomy) (c .before .before .before .before .before .before .query .kept .1 .1 .0) f) (f .inside)
+look-requires t c κs = let the-query = c .before .before .before .before .before .before .query in let a = c .before .before .before .before .before .before .before .before .before .before .args in let h = c .before .before .before .before .before .before .before .before .before .before .pre .1 in let r = h .asks .ready in let f = (ran-done (c .before .before .root .given .1) (the-query .ensures)) in readable _ (roomy-after (r .roomy) (the-query .kept .1 .1 .0) f) (f .inside)
 
 enum-known-b : (t : ℕ) → lts.Need-enum-known-b (choose-claims t) (choose-at t) choose-reads.Post
 enum-known-b t c = search needs
 
 statement-requires : (t : ℕ) → lts.Need-statement-requires (choose-claims t) (choose-at t) choose-reads.Post
-statement-requires t c κs = let a = c .before .before .before .before .before .before .before .before .before .before .before .before .before .before .before .before .args in let h = c .before .before .before .before .before .before .before .before .before .before .before .before .before .before .before .before .pre .1 in let r = h .asks .ready in let f = (ran-done (c .before .before .before .before .before .before .before .before .root .given .1) (c .before .before .before .before .before .before .before .before .before .before .before .before .query .ensures)) in (omega (arith, c .before .before .before .before .before .before .before .before .before .before .before .before .before .before .before .before .pre .0), edits-after h (a .focus) (c .before .before .before .before .before .before .before .before .before .before .before .before .query .kept .1 .1 .0) f (omega (arith, r .focus, f .grown)) (fits-if (a .s .now) (a .depth) (a .scope) (a .p) (a .q) (a .r) (h .asks .scope) .1))
+statement-requires t c κs = let the-pre = c .before .before .before .before .before .before .before .before .before .before .before .before .before .before .before .before .pre in let the-query = c .before .before .before .before .before .before .before .before .before .before .before .before .query in let a = c .before .before .before .before .before .before .before .before .before .before .before .before .before .before .before .before .args in let h = the-pre .1 in let r = h .asks .ready in let f = (ran-done (c .before .before .before .before .before .before .before .before .root .given .1) (the-query .ensures)) in (omega (arith, the-pre .0), edits-after h (a .focus) (the-query .kept .1 .1 .0) f (omega (arith, r .focus, f .grown)) (fits-if (a .s .now) (a .depth) (a .scope) (a .p) (a .q) (a .r) (h .asks .scope) .1))
 
 statement-requires-2 : (t : ℕ) → lts.Need-statement-requires-2 (choose-claims t) (choose-at t) choose-reads.Post
-statement-requires-2 t c κs = let a = c .before .before .before .before .before .before .before .before .before .before .before .before .before .before .before .before .args in let h = c .before .before .before .before .before .before .before .before .before .before .before .before .before .before .before .before .pre .1 in let r = h .asks .ready in let f = (ran-done (c .before .before .before .before .before .before .before .before .root .given .1) (c .before .before .before .before .before .before .before .before .before .before .before .before .query .ensures)) in (omega (arith, c .before .before .before .before .before .before .before .before .before .before .before .before .before .before .before .before .pre .0), edits-after h (a .focus) (c .before .before .before .before .before .before .before .before .before .before .before .before .query .kept .1 .1 .0) f (omega (arith, r .focus, f .grown)) (fits-if (a .s .now) (a .depth) (a .scope) (a .p) (a .q) (a .r) (h .asks .scope) .2))
+statement-requires-2 t c κs = let the-pre = c .before .before .before .before .before .before .before .before .before .before .before .before .before .before .before .before .pre in let the-query = c .before .before .before .before .before .before .before .before .before .before .before .before .query in let a = c .before .before .before .before .before .before .before .before .before .before .before .before .before .before .before .before .args in let h = the-pre .1 in let r = h .asks .ready in let f = (ran-done (c .before .before .before .before .before .before .before .before .root .given .1) (the-query .ensures)) in (omega (arith, the-pre .0), edits-after h (a .focus) (the-query .kept .1 .1 .0) f (omega (arith, r .focus, f .grown)) (fits-if (a .s .now) (a .depth) (a .scope) (a .p) (a .q) (a .r) (h .asks .scope) .2))
 
 enum-told : (t : ℕ) → lts.Need-enum-told (choose-claims t) (choose-at t) choose-reads.Post
 enum-told t c = search needs

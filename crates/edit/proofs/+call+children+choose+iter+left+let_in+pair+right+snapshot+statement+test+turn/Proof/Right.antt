@@ -14,7 +14,7 @@ use Rattle.edit.proofs.+call+children+choose+iter+left+let_in+pair+righ
 use Rattle.edit.proofs.+call+children+choose+iter+left+let_in+pair+right+snapshot+statement+test+turn.Proof.Base.{right-claims, right-at}
 
 statement-requires : (t : ℕ) → lts.Need-statement-requires (right-claims t) (right-at t) right-reads.Post
-statement-requires t c κs = let a = c .before .before .before .args in let h = c .before .before .before .pre .1 in let r = h .asks .ready in (omega (arith, c .before .before .before .pre .0), edits-part h 0 (omega arith) (fits-right (a .s .now) (a .depth) (a .scope) (a .p) (h .asks .scope)))
+statement-requires t c κs = let the-pre = c .before .before .before .pre in let a = c .before .before .before .args in let h = the-pre .1 in let r = h .asks .ready in (omega (arith, the-pre .0), edits-part h 0 (omega arith) (fits-right (a .s .now) (a .depth) (a .scope) (a .p) (h .asks .scope)))
 
 enum-known-why : (t : ℕ) → lts.Need-enum-known-why (right-claims t) (right-at t) right-reads.Post
 enum-known-why t c = search needs
@@ -23,7 +23,7 @@ enum-known-root : (t : ℕ) → lts.Need-enum-known-root (right-claims t) (right
 enum-known-root t c = search needs
 
 front-requires : (t : ℕ) → lts.Need-front-requires (right-claims t) (right-at t) right-reads.Post
-front-requires t c κs = let a = c .before .before .before .before .before .before .before .before .before .before .args in let h = c .before .before .before .before .before .before .before .before .before .before .pre .1 in let r = h .asks .ready in let f = (ran-done (c .before .before .root .given .1) (c .before .before .before .before .before .before .statement .ensures)) in (roomy-after (r .roomy) (c .before .before .before .before .before .before .statement .kept .1 .1 .0) f, omega (arith, r .focus, f .grown), f .inside)
+front-requires t c κs = let the-statement = c .before .before .before .before .before .before .statement in let a = c .before .before .before .before .before .before .before .before .before .before .args in let h = c .before .before .before .before .before .before .before .before .before .before .pre .1 in let r = h .asks .ready in let f = (ran-done (c .before .before .root .given .1) (the-statement .ensures)) in (roomy-after (r .roomy) (the-statement .kept .1 .1 .0) f, omega (arith, r .focus, f .grown), f .inside)
 
 same-length : (t : ℕ) → lts.Need-same-length (right-claims t) (right-at t) right-reads.Post
 same-length t c = c .before .before .before .before .before .statement .kept .1 .1 .0

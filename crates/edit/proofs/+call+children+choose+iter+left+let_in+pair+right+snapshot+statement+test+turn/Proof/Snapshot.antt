@@ -3,6 +3,7 @@ use native.Mathlib.Omega.{arith}
 use Rattle.ask.specs.Ask.{a-place}
 use Rattle.edit.specs.Edit.{edits-with, fits-snapshot, fits-more}
 use Rattle.edit.proofs.Laws.{snapshot-met}
+use borrow.Author.Needs.{needs}
 use Prim.Native.Nat.{ℕ}
 use Rattle.edit.proofs.snapshot.Reads as snapshot-reads
 use Rattle.edit.proofs.+call+children+choose+iter+left+let_in+pair+right+snapshot+statement+test+turn.Lts-snapshot as lts
@@ -12,7 +13,7 @@ with-requires : (t : ℕ) → lts.Need-with-requires (snapshot-claims t) (snapsh
 with-requires t c κs = let a = c .before .before .before .args in let h = c .before .before .before .pre .1 in let r = h .asks .ready in (a-place (r .scoped) ((fits-snapshot (a .s .now) (a .depth) (a .scope) (a .p) (h .asks .scope)) .0), r .scoped .sixteen)
 
 statement-requires : (t : ℕ) → lts.Need-statement-requires (snapshot-claims t) (snapshot-at t) snapshot-reads.Post
-statement-requires t c κs = let a = c .before .before .before .before .args in let h = c .before .before .before .before .pre .1 in let r = h .asks .ready in let fit = (fits-snapshot (a .s .now) (a .depth) (a .scope) (a .p) (h .asks .scope)) in (omega (arith, c .before .before .before .before .pre .0), edits-with h (c .with .ensures) (a-place (r .scoped) (fit .0)) (r .focus) (fits-more (a .s .now) (a .depth) (a .scope) (a .p) (c .with .ensures) (fit .1)))
+statement-requires t c κs = let the-pre = c .before .before .before .before .pre in let the-with = c .with in let a = c .before .before .before .before .args in let h = the-pre .1 in let r = h .asks .ready in let fit = (fits-snapshot (a .s .now) (a .depth) (a .scope) (a .p) (h .asks .scope)) in (omega (arith, the-pre .0), edits-with h (the-with .ensures) (a-place (r .scoped) (fit .0)) (r .focus) (fits-more (a .s .now) (a .depth) (a .scope) (a .p) (the-with .ensures) (fit .1)))
 
 same-length : (t : ℕ) → lts.Need-same-length (snapshot-claims t) (snapshot-at t) snapshot-reads.Post
 same-length t c = c .before .before .statement .kept .1 .1 .0

@@ -21,7 +21,7 @@ enum-told-2 : (t : ℕ) → lts.Need-enum-told-2 (test-claims t) (test-at t) tes
 enum-told-2 t c = search needs
 
 statement-requires : (t : ℕ) → lts.Need-statement-requires (test-claims t) (test-at t) test-reads.Post
-statement-requires t c κs = let a = c .before .before .before .before .before .before .before .args in let h = c .before .before .before .before .before .before .before .pre .1 in let r = h .asks .ready in (omega (arith, c .before .before .before .before .before .before .before .pre .0), edits-part h (a .tree) (r .focus) (fits-test (a .s .now) (a .depth) (a .scope) _ (a .r) (h .asks .scope)))
+statement-requires t c κs = let the-pre = c .before .before .before .before .before .before .before .pre in let a = c .before .before .before .before .before .before .before .args in let h = the-pre .1 in let r = h .asks .ready in (omega (arith, the-pre .0), edits-part h (a .tree) (r .focus) (fits-test (a .s .now) (a .depth) (a .scope) _ (a .r) (h .asks .scope)))
 
 enum-told-3 : (t : ℕ) → lts.Need-enum-told-3 (test-claims t) (test-at t) test-reads.Post
 enum-told-3 t c = search needs

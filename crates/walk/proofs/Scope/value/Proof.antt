@@ -7,19 +7,15 @@ use Rattle.walk.proofs.Scope.value.Tie as tie
 use Rattle.walk.proofs.Scope.value.Reads as reads
 use Rattle.walk.proofs.Scope.value.Lts as lts
 
--- src/lib.rt:83:13
 returns : tie.Need-returns
 returns c = value-none (c .before .args .t1) (c .before .args .v) (c .before .pre .0) (c .before .pre .1) (omega arith)
 
--- src/lib.rt:85:17
 mul-p : tie.Need-mul-p
 mul-p c = search needs
 
--- src/lib.rt:85:17
 element-copy-out-p : tie.Need-element-copy-out-p
 element-copy-out-p c = search needs
 
--- src/lib.rt:77:5
 returns-2 : tie.Need-returns-2
 returns-2 c = value-some (c .before .before .args .t1) (c .before .before .args .v) (omega arith)
 

@@ -6,19 +6,15 @@ use Rattle.walk.proofs.Scope.with.Tie as tie
 use Rattle.walk.proofs.Scope.with.Reads as reads
 use Rattle.walk.proofs.Scope.with.Lts as lts
 
--- src/lib.rt:71:9
 mul-t7 : tie.Need-mul-t7
 mul-t7 c = search needs
 
--- src/lib.rt:71:9
 element-set-from-next : tie.Need-element-set-from-next
 element-set-from-next c = search needs
 
--- src/lib.rt:72:22
 add-next : tie.Need-add-next
 add-next c = search needs
 
--- src/lib.rt:65:5
 returns : tie.Need-returns
 returns c = more-of (c .args .kind) (c .args .value) (c .pre .0) (c .pre .1)
 

@@ -1,0 +1,2 @@
+-- What a block says of itself, and stores in place.
+pub mod Blocks
