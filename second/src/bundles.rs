@@ -126,7 +126,7 @@ fn take<const ROW: usize>(words: &mut &[u16], count: usize) -> Vec<[u16; ROW]> {
 }
 
 /// "counts of names, types, queries, statements, procedures, forest rows, pool bytes".
-fn counts(sheet: &Sheet) -> [usize; 7] {
+pub fn counts(sheet: &Sheet) -> [usize; 7] {
     [
         sheet.names.len(),
         sheet.types.len(),

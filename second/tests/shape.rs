@@ -1,7 +1,7 @@
 //! Each rule under Tables broken alone, its edge kept; the blocks of bundles.
 
 use second::answers::{answers, apply_listing, Refusal};
-use second::bundles::{read, read_within, to_bundle, unframe, write};
+use second::bundles::{counts, read, read_within, to_bundle, unframe, write};
 use second::faults::{block_faults, edges, every_kind, faults, remainder_zero};
 use second::shape::{broken_rules, RULES};
 
@@ -58,15 +58,7 @@ fn what_is_written_is_read_and_what_is_read_is_written() {
 fn the_readers_room() {
     let sheet = every_kind();
     let bundle = to_bundle(&sheet);
-    let exact = [
-        sheet.names.len(),
-        sheet.types.len(),
-        sheet.queries.len(),
-        sheet.statements.len(),
-        sheet.procedures.len(),
-        sheet.forest.len(),
-        sheet.pool.len(),
-    ];
+    let exact = counts(&sheet);
     assert_eq!(read_within(&bundle, exact).as_ref(), Ok(&sheet));
     for short in 0..exact.len() {
         let mut lent = exact;

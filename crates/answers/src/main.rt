@@ -2,7 +2,7 @@
 fn main() {
     tell::answers(
         0,
-        tell::rows_argument(1, 6144),
-        tell::rows_argument(2, 8192),
+        fields::rows_argument(1, 6144),
+        fields::rows_argument(2, 8192),
     );
 }

@@ -10,12 +10,10 @@ use walk::Purse;
 use walk::Scope;
 use walk::Stop;
 use walk::Taken;
-use words::wide;
 ghost use mathlib.Core.Path.{_≡_};
 ghost use Prim.Native.Nat.{ℕ, _+_, _<_, _≤_};
-ghost use lib.ListN.{getD};
 ghost use Rattle.meaning.specs.Kinds.{Query};
-ghost use Rattle.meaning.specs.Forest.{count, forestAt, bytesFrom, sameBytes, boolKind};
+ghost use Rattle.meaning.specs.Forest.{count, forestAt, boolKind};
 ghost use Rattle.meaning.specs.Walk.{of-query};
 ghost use Rattle.meaning.specs.Run.{seen, inside, same-texts, each};
 ghost use Rattle.meaning.specs.Theorems.ReadBack.{lentRow};
@@ -23,35 +21,6 @@ ghost use Rattle.walk.specs.Meets.{Roomy, Meets, Ran};
 ghost use Rattle.walk.specs.Loop.{Links, Turns, alone, gathered, turnOf};
 ghost use Rattle.rows.specs.Rows.{Readable};
 ghost use Rattle.ask.specs.Ask.{Lay, Asks, pool, fits, fits-row, fits-body, asked, row-asked, body-asked};
-
-// Byte `i`; what lies past the end reads as 0.
-fn byte_at(s: &[u8], i: usize) -> usize
-    ensures { λ r. ⌜ r ≡ getD (now (s .entry)) i 0 ⌝ }
-{
-    if s.len() <= i {
-        return 0;
-    }
-    wide(s[i])
-}
-
-// Whether two places of the pool hold the same bytes.
-fn same_bytes(s: &[u8], l: Layout, o: usize, n: usize, p: usize, m: usize) -> bool
-    requires { ⌜ (Lay (now s) l) × (o < 65536) × (n < 65536) × (p < 65536) × (m < 65536) ⌝ }
-    ensures { λ r. ⌜ r ≡ sameBytes (bytesFrom (pool (now (s .entry))) o n) (bytesFrom (pool (now (s .entry))) p m) ⌝ }
-{
-    if n != m {
-        return false;
-    }
-    let at = 2 * l.pool_at;
-    let mut i = 0;
-    while i < n {
-        if byte_at(s, at + o + i) != byte_at(s, at + p + i) {
-            return false;
-        }
-        i += 1;
-    }
-    true
-}
 
 // The kind of a bool's row.
 fn kind_of(b: bool) -> usize
@@ -79,7 +48,7 @@ fn same_texts(
             Seen::Text(p, m) => make(
                 rows,
                 used,
-                kind_of(same_bytes(s, l, o, n, p, m)),
+                kind_of(texts::same_bytes(s, l, o, n, p, m)),
                 0,
                 0,
                 purse,

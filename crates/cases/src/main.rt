@@ -6,8 +6,8 @@ fn one(name: usize, work: usize, result: usize) {
         return;
     }
     io::write_all(1, &path[..n]);
-    tell::field(work);
-    tell::field(result);
+    fields::field(work);
+    fields::field(result);
     io::write_all(1, b"\n");
     let fd = os::open_read(&path[..n]);
     if fd < 0 {
@@ -23,8 +23,8 @@ fn main() {
         let at = 3 * i;
         one(
             at + 1,
-            tell::rows_argument(at + 2, 6144),
-            tell::rows_argument(at + 3, 8192),
+            fields::rows_argument(at + 2, 6144),
+            fields::rows_argument(at + 3, 8192),
         );
     }
 }

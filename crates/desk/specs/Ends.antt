@@ -4,15 +4,15 @@ use mathlib.Core.Path.{_≡_, ap, subst}
 use mathlib.Core.Bool.{true}
 use mathlib.Core.List.{List}
 use native.Mathlib.Omega.{arith}
-use lib.ListN.{length, getD}
+use lib.ListN.{length}
 use Rattle.meaning.specs.Words.{rowsLent}
 use Rattle.meaning.specs.Sheet.{scriptOf, groveOf, sheetOf}
 use Rattle.meaning.specs.Shape.{shapely}
-use Rattle.meaning.specs.Forest.{Forest, forestAt, forestSize}
+use Rattle.meaning.specs.Forest.{Forest, forestAt}
 use Rattle.meaning.specs.Walk.{gives, fuel, stops, Settles, Quiet, Unasked}
 use Rattle.meaning.specs.Walk as meaning
 use Rattle.meaning.specs.Run.{run-walk}
-use Rattle.meaning.specs.Reply.{done, Loads, given, run-settled, verdict-answer, no-scratch, ended, no-room, gave}
+use Rattle.meaning.specs.Reply.{done, Loads, run-settled, verdict-answer, no-scratch, ended, no-room, gave}
 use Rattle.meaning.specs.Laws.Rows.{LowRows, forestAt-same}
 use Rattle.meaning.specs.Laws.Walk.{settles-settle, within-purse}
 use Rattle.meaning.specs.Theorems.ReadBack.{lentRow}
@@ -28,7 +28,8 @@ use Rattle.walk.specs.declared.Answer as walk
 use Rattle.walk.specs.declared.Answer.the-variants.{Done, Not}
 use Rattle.ask.specs.Ask.{lay-of, held}
 use Rattle.edit.specs.Edit.{Edits, fits, went}
-use Rattle.out.specs.Sizes.{Below}
+use Rattle.room.specs.Hands.{HandsBy}
+use Rattle.room.specs.declared.Handed.the-variants as room
 use Rattle.desk.specs.Said.{Says}
 use Rattle.meaning.specs.Laws.Shaped.{few-rows, few-units}
 use Rattle.meaning.specs.Laws.Trees.{root-row, grove-low}
@@ -173,12 +174,11 @@ gave-of {s} {lent} {new} {root} {used} {left} b m en eu =
 
 -- ---- the result: Room, or its rows
 
--- the sizes as they are counted judge Room: a lent slice counts at most 65,535 rows
-module _ {s lent new : List ℕ} {root units : ℕ} (g : Gave s lent new root units) (sizes : List ℕ) (used : ℕ) (sized : Below new (used + 1) sizes) (inside : root ≤ used) (result : List ℕ) where
-  pub room-short : rowsLent result < getD sizes root 0 → Says s lent result (ran.Room units) result
-  room-short h = record { said = no-room {f = forestAt (groveOf s .byte) (lentRow new) root} {units = units} (g .begun .loads) (g .begun .rows) (g .verdict) (g .charge) (omega (arith, sized (groveOf s .byte) root (omega arith))) }
+module _ {s lent new : List ℕ} {root units : ℕ} (g : Gave s lent new root units) {result after : List ℕ} where
+  pub said-room : HandsBy new root result after room.Room → Says s lent result (ran.Room units) after
+  said-room h = rw (h .0) (record { said = no-room {f = forestAt (groveOf s .byte) (lentRow new) root} {units = units} (g .begun .loads) (g .begun .rows) (g .verdict) (g .charge) (h .1 (groveOf s .byte)) })
 
-  pub room-enough : {after : List ℕ} → getD sizes root 0 ≤ rowsLent result → ((byte : ℕ → ℕ) → after ≡ given (forestAt byte (lentRow new) root) result) → Says s lent result (ran.Done units (getD sizes root 0)) after
-  room-enough h w =
-      let size : getD sizes root 0 ≡ forestSize (forestAt (groveOf s .byte) (lentRow new) root) = omega (arith, sized (groveOf s .byte) root (omega arith)) in
-      record { said = gave {f = forestAt (groveOf s .byte) (lentRow new) root} {units = units} (g .begun .loads) (g .begun .rows) (g .verdict) (g .charge) (omega arith) size (w (groveOf s .byte)) }
+  pub said-rows : {n : ℕ} → HandsBy new root result after (room.Rows n) → Says s lent result (ran.Done units n) after
+  said-rows h =
+      let size = h .1 (groveOf s .byte) .0 in
+      record { said = gave {f = forestAt (groveOf s .byte) (lentRow new) root} {units = units} (g .begun .loads) (g .begun .rows) (g .verdict) (g .charge) (omega (arith, h .0)) size (h .1 (groveOf s .byte) .1) }

@@ -1,4 +1,5 @@
 // The run, whole: the order of refusals, and the rows left behind. Working rows are zeroed in one place, after the answer is known.
+use room::Handed;
 use sheet::Layout;
 use ties::Soundness;
 use ties::Tied;
@@ -11,7 +12,7 @@ ghost use mathlib.Core.Bool.{true};
 ghost use mathlib.Core.List.{List};
 ghost use Prim.Native.Nat.{ℕ, _+_, _*_, _≤_, _<_};
 ghost use lib.ListN.{length};
-ghost use Rattle.meaning.specs.Words.{rowsLent, zeroed};
+ghost use Rattle.meaning.specs.Words.{zeroed};
 ghost use Rattle.meaning.specs.Sheet.{sheetOf};
 ghost use Rattle.meaning.specs.Shape.{shapely};
 ghost use Rattle.meaning.specs.Run.{run-walk};
@@ -35,14 +36,6 @@ pub enum Ran {
     Stuck { row: usize, flag: u8, units: usize },
     Scratch,
     Room(usize),
-}
-
-// The rows that a lent slice counts for.
-fn rows_lent(b: &[u8]) -> usize
-    ensures { λ r. ⌜ r ≡ rowsLent (now (b .entry)) ⌝ }
-{
-    let n = b.len() / 8;
-    if n < 65535 { n } else { 65535 }
 }
 
 // The forest's rows, copied to the front of the working rows.
@@ -86,14 +79,10 @@ fn finish(work: &[u8], used: usize, root: usize, units: usize, result: &mut [u8]
     requires { ⌜ (root ≤ used) × (used ≤ 6144) × (LowRows (lentRow (now work)) used) ⌝ }
     ensures { λ r. ⌜ ((s lent : List ℕ) → Gave s lent (now (work .entry)) root units → Says s lent (now (result .entry)) r (now (result .exit))) ⌝ }
 {
-    let mut sizes = [0u32; 6145];
-    out::sizes(work, used, &mut sizes);
-    let n = sizes[root] as usize;
-    if rows_lent(result) < n {
-        return Ran::Room(units);
+    match room::hand_out(work, used, root, result) {
+        Handed::Room => Ran::Room(units),
+        Handed::Rows(n) => Ran::Done { units, root: n },
     }
-    out::write_out(work, &sizes, root, result);
-    Ran::Done { units, root: n }
 }
 
 // A sound sheet's run: Scratch first, then the walk, Room last.
@@ -101,7 +90,7 @@ fn walked(s: &[u8], l: Layout, work: &mut [u8], result: &mut [u8]) -> Ran
     requires { ⌜ (shapely (now s) ≡ true) × (Laid (now s) l) × (Loads (now s) done) ⌝ }
     ensures { λ r. ⌜ Says (now (s .entry)) (now (work .entry)) (now (result .entry)) r (now (result .exit)) ⌝ }
 {
-    if rows_lent(work) < l.rows + l.run_fuel {
+    if room::rows_lent(work) < l.rows + l.run_fuel {
         return Ran::Scratch;
     }
     match walk_main(s, l, work) {

@@ -133,6 +133,7 @@ pub fn statement(
         Taken::Fuel => Answer::Not(Stop::Fuel),
         Taken::Left(rest) => {
             let c = sheet::statement_row(s, l, at);
+            let below = depth - 1;
             let kind = c.kind;
             match kind {
                 1 => Answer::Done {
@@ -140,23 +141,23 @@ pub fn statement(
                     used,
                     purse: rest,
                 },
-                2 => pair(s, l, rows, scope, used, c.p, c.q, focus, depth - 1, rest),
-                3 => choose(s, l, rows, scope, used, at, c.p, c.q, c.r, focus, depth - 1, rest),
-                4 => insert(s, l, rows, scope, used, at, c.p, focus, depth - 1, rest),
+                2 => pair(s, l, rows, scope, used, c.p, c.q, focus, below, rest),
+                3 => choose(s, l, rows, scope, used, at, c.p, c.q, c.r, focus, below, rest),
+                4 => insert(s, l, rows, scope, used, at, c.p, focus, below, rest),
                 5 => Answer::Done {
                     root: 0,
                     used,
                     purse: rest,
                 },
                 6 => rename(rows, used, at, c.p, focus, rest),
-                7 => let_in(s, l, rows, scope, used, c.p, c.q, focus, depth - 1, rest),
-                8 => snapshot(s, l, rows, scope, used, c.p, focus, depth - 1, rest),
-                9 => test(s, l, rows, scope, used, at, c.p, c.q, c.r, focus, depth - 1, rest),
-                10 => children(s, l, rows, scope, used, at, c.p, focus, depth - 1, rest),
-                11 => left(s, l, rows, scope, used, c.p, focus, depth - 1, rest),
-                12 => right(s, l, rows, scope, used, c.p, focus, depth - 1, rest),
-                13 => iter(s, l, rows, scope, used, c.p, focus, depth - 1, rest),
-                14 => call(s, l, rows, scope, used, c.p, c.q, c.r, focus, depth - 1, rest),
+                7 => let_in(s, l, rows, scope, used, c.p, c.q, focus, below, rest),
+                8 => snapshot(s, l, rows, scope, used, c.p, focus, below, rest),
+                9 => test(s, l, rows, scope, used, at, c.p, c.q, c.r, focus, below, rest),
+                10 => children(s, l, rows, scope, used, at, c.p, focus, below, rest),
+                11 => left(s, l, rows, scope, used, c.p, focus, below, rest),
+                12 => right(s, l, rows, scope, used, c.p, focus, below, rest),
+                13 => iter(s, l, rows, scope, used, c.p, focus, below, rest),
+                14 => call(s, l, rows, scope, used, c.p, c.q, c.r, focus, below, rest),
                 0 | 15..=65535 => Answer::Not(Stop::Stuck(at, 2, rest)),
             }
         }

@@ -1,19 +1,11 @@
 // The answers to a bundle, printed a line each in the form that the second program prints: `read N`, then `fit ROW N A B` for each type row, then `run N UNITS A B ROOT` with the result's rows.
 use bundle::Opened;
 use desk::Ran;
+use fields::field;
 use fit::Answer;
 ghost use mathlib.Core.Path.{_≡_};
-ghost use Prim.Native.Nat.{_*_, _<_, _≤_};
+ghost use Prim.Native.Nat.{_*_, _≤_};
 ghost use lib.ListN.{length};
-
-fn number(x: usize) {
-    io::print_decimal(1, x as u64);
-}
-
-pub fn field(x: usize) {
-    io::write_all(1, b" ");
-    number(x);
-}
 
 fn read_line(n: usize) {
     io::write_all(1, b"read");
@@ -59,28 +51,6 @@ fn run_line(n: usize, units: usize, a: usize, b: usize, root: usize) {
     io::write_all(1, b"\n");
 }
 
-fn row_line(result: &[u8], r: usize)
-    requires { ⌜ (0 < r) × (r < 65536) ⌝ }
-{
-    let c = rows::row(result, r);
-    number(r);
-    field(c.kind as usize);
-    field(c.p);
-    field(c.q);
-    field(c.r);
-    io::write_all(1, b"\n");
-}
-
-fn row_lines(result: &[u8], root: usize)
-    requires { ⌜ root < 65536 ⌝ }
-{
-    let mut r = 1;
-    while r <= root {
-        row_line(result, r);
-        r += 1;
-    }
-}
-
 fn ran_line(answer: Ran) {
     match answer {
         Ran::Done { units, root } => run_line(0, units, 0, 0, root),
@@ -99,7 +69,7 @@ fn run_answer(s: &[u8], work: &mut [u8], result: &mut [u8]) {
     let answer = desk::run(s, work, result);
     ran_line(answer);
     if let Ran::Done { units: _, root } = answer {
-        row_lines(result, root);
+        fields::row_lines(result, root);
     }
 }
 
@@ -152,39 +122,4 @@ pub fn answers(fd: i32, work: usize, result: usize) {
         Opened::Refused => read_line(1),
         Opened::Sheet(need) => sheet_answers(&payload[..need], work, result),
     }
-}
-
-// A digit more behind a number; what is past a million stays there.
-fn digit(x: usize, byte: u8) -> usize {
-    if byte < 48 {
-        return x;
-    }
-    if 57 < byte {
-        return x;
-    }
-    if 1000000 < x {
-        return x;
-    }
-    10 * x + (byte - 48) as usize
-}
-
-// The number that the bytes write in decimal.
-fn decimal(text: &[u8]) -> usize {
-    let mut x = 0;
-    let mut i = 0;
-    while i < text.len() {
-        x = digit(x, text[i]);
-        i += 1;
-    }
-    x
-}
-
-// The rows that argument `i` says, or `other` where there is none.
-pub fn rows_argument(i: usize, other: usize) -> usize {
-    let mut text = io::buffer();
-    let n = os::arg(i, &mut text);
-    if os::errno() != 0 {
-        return other;
-    }
-    decimal(&text[..n])
 }

@@ -1,67 +1,30 @@
--- `desk::finish` meets its contract: the sizes judge Room, and what is written is the result's rows.
-use Prim.Native.Nat.{_+_}
-use native.Mathlib.Omega.{arith}
-use Rattle.out.specs.Sizes.{at-most, blank-zeros}
-use Rattle.desk.specs.Ends.{room-short, room-enough}
+-- `desk::finish` meets its contract: what became of the result is what is said.
 use borrow.Author.Needs.{needs}
+use Rattle.room.specs.Hands.{hands-room, hands-rows}
+use Rattle.desk.specs.Ends.{said-room, said-rows}
 use Rattle.desk.proofs.finish.Statement.{statement}
 use Rattle.desk.proofs.finish.Tie as tie
 
-sizes-requires : tie.Need-sizes-requires
-sizes-requires c κs = let start = c .before .before .before in (start .pre .1, start .pre .2, blank-zeros)
+hand-out-requires : tie.Need-hand-out-requires
+hand-out-requires c κs = c .before .before .before .pre
 
-mul-n : tie.Need-mul-n
-mul-n c = search needs
+enum-told : tie.Need-enum-told
+enum-told c = search needs
 
-array-read-n : tie.Need-array-read-n
-array-read-n c = search needs
-
-cast-n : tie.Need-cast-n
-cast-n c =
-    let start = c .before .before .before .before in
-    omega (arith, at-most (start .args .work .now) (c .sizes2 .last .1 .1 .0) (start .args .used + 1) (c .sizes2 .ensures) (start .args .root) (omega (arith, start .pre .0)))
-
-rows-lent-requires : tie.Need-rows-lent-requires
-rows-lent-requires c κs = search needs
+enum-known-n : tie.Need-enum-known-n
+enum-known-n c = search needs
 
 same-length : tie.Need-same-length
 same-length c = search needs
 
 returns : tie.Need-returns
-returns c =
-    let start = c .before .before .before .before .before .before .before in
-    λ s lent g. room-short g (c .before .before .before .sizes2 .last .1 .1 .0) (start .args .used) (c .before .before .before .sizes2 .ensures) (start .pre .0) (start .args .result .now) (omega (arith, c .if1 .taken, c .before .rows-lent .ensures))
-
-write-out-requires : tie.Need-write-out-requires
-write-out-requires c κs =
-    let start = c .before .before .before .before .before .before .before .before .before in
-    record {
-      low = λ i p q. start .pre .2 i p (omega (arith, start .pre .0));
-      sized = λ byte i h. c .before .before .before .before .before .sizes2 .ensures byte i (omega (arith, start .pre .0));
-      few = omega (arith, start .pre .0, start .pre .1);
-      small = omega (arith, c .before .before .if1 .left, c .before .before .before .rows-lent .ensures);
-      room = omega (arith, c .before .before .if1 .left, c .before .before .before .rows-lent .ensures);
-    }
+returns c = λ s lent g. said-room g (hands-room (c .enum-told .given .1) (c .before .before .before .before .hand-out .ensures))
 
 same-length-2 : tie.Need-same-length-2
 same-length-2 c = search needs
 
 returns-2 : tie.Need-returns-2
-returns-2 c =
-    let start = c .before .before .before .before .before .before .before .before .before .before .before .before in
-    λ s lent g. room-enough g (c .before .before .before .before .before .before .before .before .sizes2 .last .1 .1 .0) (start .args .used) (c .before .before .before .before .before .before .before .before .sizes2 .ensures) (start .pre .0) (start .args .result .now) (omega (arith, c .before .before .before .before .before .if1 .left, c .before .before .before .before .before .before .rows-lent .ensures)) (c .before .before .write-out .ensures)
+returns-2 c = λ s lent g. said-rows g (hands-rows (c .before .n .given .1) (c .before .before .before .before .before .hand-out .ensures))
 
 pub finish-spec : {M : Type 1} → statement M
-finish-spec =
-    tie.close
-    (tie.spec
-    sizes-requires
-    mul-n
-    array-read-n
-    cast-n
-    rows-lent-requires
-    same-length
-    returns
-    write-out-requires
-    same-length-2
-    returns-2)
+finish-spec = tie.close (tie.spec hand-out-requires enum-told enum-known-n same-length returns same-length-2 returns-2)

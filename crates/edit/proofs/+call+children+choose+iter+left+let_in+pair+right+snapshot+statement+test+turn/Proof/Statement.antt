@@ -28,20 +28,14 @@ enum-known-rest t c = search needs
 statement-row-requires : (t : ℕ) → lts.Need-statement-row-requires (statement-claims t) (statement-at t) statement-reads.Post
 statement-row-requires t c κs = let a = c .before .before .before .before .before .before .before .args in let h = c .before .before .before .before .before .before .before .pre .1 in let r = h .asks .ready in laid-of (a .s .now) (a .l) (h .asks .laid)
 
-sub-pair : (t : ℕ) → lts.Need-sub-pair (statement-claims t) (statement-at t) statement-reads.Post
-sub-pair t c = search needs
+sub-below : (t : ℕ) → lts.Need-sub-below (statement-claims t) (statement-at t) statement-reads.Post
+sub-below t c = search needs
 
 pair-requires : (t : ℕ) → lts.Need-pair-requires (statement-claims t) (statement-at t) statement-reads.Post
 pair-requires t c κs = let the-pre = c .before .before .before .before .before .before .before .before .before .before .pre in let the-if1 = c .before .before .before .before .before .before .before .if1 in let the-statement-row = c .before .before .statement-row in let a = c .before .before .before .before .before .before .before .before .before .before .args in let h = the-pre .1 in let r = h .asks .ready in (omega (arith, the-pre .0, the-if1 .left), (edits-less h _ (paid-left (c .before .before .before .before .rest .given .1) (c .before .before .before .before .before .before .take .ensures)) (fits-form (a .s .now) (a .scope) (a .depth) (a .at) (the-if1 .left) (form-is (a .s .now) (a .at) (the-statement-row .result) (the-statement-row .ensures .0) 2 (c .before .match2 .keys2)) (h .shaped) (h .asks .scope))))
 
-sub-choose : (t : ℕ) → lts.Need-sub-choose (statement-claims t) (statement-at t) statement-reads.Post
-sub-choose t c = search needs
-
 choose-requires : (t : ℕ) → lts.Need-choose-requires (statement-claims t) (statement-at t) statement-reads.Post
 choose-requires t c κs = let the-pre = c .before .before .before .before .before .before .before .before .before .before .pre in let the-if1 = c .before .before .before .before .before .before .before .if1 in let the-statement-row = c .before .before .statement-row in let a = c .before .before .before .before .before .before .before .before .before .before .args in let h = the-pre .1 in let r = h .asks .ready in (omega (arith, the-pre .0, the-if1 .left), (edits-less h _ (paid-left (c .before .before .before .before .rest .given .1) (c .before .before .before .before .before .before .take .ensures)) (fits-form (a .s .now) (a .scope) (a .depth) (a .at) (the-if1 .left) (form-is (a .s .now) (a .at) (the-statement-row .result) (the-statement-row .ensures .0) 3 (c .before .match2 .keys3)) (h .shaped) (h .asks .scope))))
-
-sub-insert : (t : ℕ) → lts.Need-sub-insert (statement-claims t) (statement-at t) statement-reads.Post
-sub-insert t c = search needs
 
 insert-requires : (t : ℕ) → lts.Need-insert-requires (statement-claims t) (statement-at t) statement-reads.Post
 insert-requires t c κs = let the-statement-row = c .before .before .statement-row in let a = c .before .before .before .before .before .before .before .before .before .before .args in let h = c .before .before .before .before .before .before .before .before .before .before .pre .1 in let r = h .asks .ready in edits-less h _ (paid-left (c .before .before .before .before .rest .given .1) (c .before .before .before .before .before .before .take .ensures)) (fits-form (a .s .now) (a .scope) (a .depth) (a .at) (c .before .before .before .before .before .before .before .if1 .left) (form-is (a .s .now) (a .at) (the-statement-row .result) (the-statement-row .ensures .0) 4 (c .before .match2 .keys4)) (h .shaped) (h .asks .scope))
@@ -49,50 +43,26 @@ insert-requires t c κs = let the-statement-row = c .before .before .statement-r
 rename-requires : (t : ℕ) → lts.Need-rename-requires (statement-claims t) (statement-at t) statement-reads.Post
 rename-requires t c κs = let a = c .before .before .before .before .before .before .before .before .before .before .args in let h = c .before .before .before .before .before .before .before .before .before .before .pre .1 in let r = h .asks .ready in (roomy-less _ 1 (r .roomy) (paid-left (c .before .before .before .before .rest .given .1) (c .before .before .before .before .before .before .take .ensures)), r .focus, c .before .before .statement-row .ensures .1 .p)
 
-sub-let-in : (t : ℕ) → lts.Need-sub-let-in (statement-claims t) (statement-at t) statement-reads.Post
-sub-let-in t c = search needs
-
 let-in-requires : (t : ℕ) → lts.Need-let-in-requires (statement-claims t) (statement-at t) statement-reads.Post
 let-in-requires t c κs = let the-pre = c .before .before .before .before .before .before .before .before .before .before .pre in let the-if1 = c .before .before .before .before .before .before .before .if1 in let the-statement-row = c .before .before .statement-row in let a = c .before .before .before .before .before .before .before .before .before .before .args in let h = the-pre .1 in let r = h .asks .ready in (omega (arith, the-pre .0, the-if1 .left), (edits-less h _ (paid-left (c .before .before .before .before .rest .given .1) (c .before .before .before .before .before .before .take .ensures)) (fits-form (a .s .now) (a .scope) (a .depth) (a .at) (the-if1 .left) (form-is (a .s .now) (a .at) (the-statement-row .result) (the-statement-row .ensures .0) 7 (c .before .match2 .keys7)) (h .shaped) (h .asks .scope))))
-
-sub-snapshot : (t : ℕ) → lts.Need-sub-snapshot (statement-claims t) (statement-at t) statement-reads.Post
-sub-snapshot t c = search needs
 
 snapshot-requires : (t : ℕ) → lts.Need-snapshot-requires (statement-claims t) (statement-at t) statement-reads.Post
 snapshot-requires t c κs = let the-pre = c .before .before .before .before .before .before .before .before .before .before .pre in let the-if1 = c .before .before .before .before .before .before .before .if1 in let the-statement-row = c .before .before .statement-row in let a = c .before .before .before .before .before .before .before .before .before .before .args in let h = the-pre .1 in let r = h .asks .ready in (omega (arith, the-pre .0, the-if1 .left), (edits-less h _ (paid-left (c .before .before .before .before .rest .given .1) (c .before .before .before .before .before .before .take .ensures)) (fits-form (a .s .now) (a .scope) (a .depth) (a .at) (the-if1 .left) (form-is (a .s .now) (a .at) (the-statement-row .result) (the-statement-row .ensures .0) 8 (c .before .match2 .keys8)) (h .shaped) (h .asks .scope))))
 
-sub-test : (t : ℕ) → lts.Need-sub-test (statement-claims t) (statement-at t) statement-reads.Post
-sub-test t c = search needs
-
 test-requires : (t : ℕ) → lts.Need-test-requires (statement-claims t) (statement-at t) statement-reads.Post
 test-requires t c κs = let the-pre = c .before .before .before .before .before .before .before .before .before .before .pre in let the-if1 = c .before .before .before .before .before .before .before .if1 in let the-statement-row = c .before .before .statement-row in let a = c .before .before .before .before .before .before .before .before .before .before .args in let h = the-pre .1 in let r = h .asks .ready in (omega (arith, the-pre .0, the-if1 .left), (edits-less h _ (paid-left (c .before .before .before .before .rest .given .1) (c .before .before .before .before .before .before .take .ensures)) (fits-form (a .s .now) (a .scope) (a .depth) (a .at) (the-if1 .left) (form-is (a .s .now) (a .at) (the-statement-row .result) (the-statement-row .ensures .0) 9 (c .before .match2 .keys9)) (h .shaped) (h .asks .scope))))
-
-sub-children : (t : ℕ) → lts.Need-sub-children (statement-claims t) (statement-at t) statement-reads.Post
-sub-children t c = search needs
 
 children-requires : (t : ℕ) → lts.Need-children-requires (statement-claims t) (statement-at t) statement-reads.Post
 children-requires t c κs = let the-pre = c .before .before .before .before .before .before .before .before .before .before .pre in let the-if1 = c .before .before .before .before .before .before .before .if1 in let the-statement-row = c .before .before .statement-row in let a = c .before .before .before .before .before .before .before .before .before .before .args in let h = the-pre .1 in let r = h .asks .ready in (omega (arith, the-pre .0, the-if1 .left), (edits-less h _ (paid-left (c .before .before .before .before .rest .given .1) (c .before .before .before .before .before .before .take .ensures)) (fits-form (a .s .now) (a .scope) (a .depth) (a .at) (the-if1 .left) (form-is (a .s .now) (a .at) (the-statement-row .result) (the-statement-row .ensures .0) 10 (c .before .match2 .keys10)) (h .shaped) (h .asks .scope))))
 
-sub-left : (t : ℕ) → lts.Need-sub-left (statement-claims t) (statement-at t) statement-reads.Post
-sub-left t c = search needs
-
 left-requires : (t : ℕ) → lts.Need-left-requires (statement-claims t) (statement-at t) statement-reads.Post
 left-requires t c κs = let the-pre = c .before .before .before .before .before .before .before .before .before .before .pre in let the-if1 = c .before .before .before .before .before .before .before .if1 in let the-statement-row = c .before .before .statement-row in let a = c .before .before .before .before .before .before .before .before .before .before .args in let h = the-pre .1 in let r = h .asks .ready in (omega (arith, the-pre .0, the-if1 .left), (edits-less h _ (paid-left (c .before .before .before .before .rest .given .1) (c .before .before .before .before .before .before .take .ensures)) (fits-form (a .s .now) (a .scope) (a .depth) (a .at) (the-if1 .left) (form-is (a .s .now) (a .at) (the-statement-row .result) (the-statement-row .ensures .0) 11 (c .before .match2 .keys11)) (h .shaped) (h .asks .scope))))
-
-sub-right : (t : ℕ) → lts.Need-sub-right (statement-claims t) (statement-at t) statement-reads.Post
-sub-right t c = search needs
 
 right-requires : (t : ℕ) → lts.Need-right-requires (statement-claims t) (statement-at t) statement-reads.Post
 right-requires t c κs = let the-pre = c .before .before .before .before .before .before .before .before .before .before .pre in let the-if1 = c .before .before .before .before .before .before .before .if1 in let the-statement-row = c .before .before .statement-row in let a = c .before .before .before .before .before .before .before .before .before .before .args in let h = the-pre .1 in let r = h .asks .ready in (omega (arith, the-pre .0, the-if1 .left), (edits-less h _ (paid-left (c .before .before .before .before .rest .given .1) (c .before .before .before .before .before .before .take .ensures)) (fits-form (a .s .now) (a .scope) (a .depth) (a .at) (the-if1 .left) (form-is (a .s .now) (a .at) (the-statement-row .result) (the-statement-row .ensures .0) 12 (c .before .match2 .keys12)) (h .shaped) (h .asks .scope))))
 
-sub-iter : (t : ℕ) → lts.Need-sub-iter (statement-claims t) (statement-at t) statement-reads.Post
-sub-iter t c = search needs
-
 iter-requires : (t : ℕ) → lts.Need-iter-requires (statement-claims t) (statement-at t) statement-reads.Post
 iter-requires t c κs = let the-pre = c .before .before .before .before .before .before .before .before .before .before .pre in let the-if1 = c .before .before .before .before .before .before .before .if1 in let the-rest = c .before .before .before .before .rest in let the-take = c .before .before .before .before .before .before .take in let the-statement-row = c .before .before .statement-row in let the-match2 = c .before .match2 in let a = c .before .before .before .before .before .before .before .before .before .before .args in let h = the-pre .1 in let r = h .asks .ready in (omega (arith, the-pre .0, the-if1 .left), edits-part (edits-less h _ (paid-left (the-rest .given .1) (the-take .ensures)) (fits-form (a .s .now) (a .scope) (a .depth) (a .at) (the-if1 .left) (form-is (a .s .now) (a .at) (the-statement-row .result) (the-statement-row .ensures .0) 13 (the-match2 .keys13)) (h .shaped) (h .asks .scope))) (a .focus) (r .focus) (fits-iter (a .s .now) _ (a .scope) _ ((edits-less h _ (paid-left (the-rest .given .1) (the-take .ensures)) (fits-form (a .s .now) (a .scope) (a .depth) (a .at) (the-if1 .left) (form-is (a .s .now) (a .at) (the-statement-row .result) (the-statement-row .ensures .0) 13 (the-match2 .keys13)) (h .shaped) (h .asks .scope))) .asks .scope)))
-
-sub-call : (t : ℕ) → lts.Need-sub-call (statement-claims t) (statement-at t) statement-reads.Post
-sub-call t c = search needs
 
 call-requires : (t : ℕ) → lts.Need-call-requires (statement-claims t) (statement-at t) statement-reads.Post
 call-requires t c κs = let the-pre = c .before .before .before .before .before .before .before .before .before .before .pre in let the-if1 = c .before .before .before .before .before .before .before .if1 in let the-statement-row = c .before .before .statement-row in let the-match2 = c .before .match2 in let a = c .before .before .before .before .before .before .before .before .before .before .args in let h = the-pre .1 in let r = h .asks .ready in (omega (arith, the-pre .0, the-if1 .left), ((edits-less h _ (paid-left (c .before .before .before .before .rest .given .1) (c .before .before .before .before .before .before .take .ensures)) (fits-form (a .s .now) (a .scope) (a .depth) (a .at) (the-if1 .left) (form-is (a .s .now) (a .at) (the-statement-row .result) (the-statement-row .ensures .0) 14 (the-match2 .keys14)) (h .shaped) (h .asks .scope))), form-call (a .s .now) (a .at) (the-statement-row .result) (the-statement-row .ensures .0) _ (h .shaped) (the-match2 .keys14)))
@@ -201,4 +171,4 @@ unfolding statement-of
 returns-18 t c = let the-statement-row = c .before .statement-row in let a = c .before .before .before .before .before .before .before .before .before .args in let h = c .before .before .before .before .before .before .before .before .before .pre .1 in let r = h .asks .ready in let none = c .match2 .rest in went-as (a .s .now) (a .scope) (a .depth) (a .at) (c .before .before .before .before .before .before .if1 .left) (form-none (a .s .now) (a .at) (the-statement-row .result) (the-statement-row .ensures .0) (fifteen-up (none .1) (none .0 .0 .0 .0 .0 .0 .0 .0 .0 .0 .0 .0 .0 .0 .1) (none .0 .0 .0 .0 .0 .0 .0 .0 .0 .0 .0 .0 .0 .1) (none .0 .0 .0 .0 .0 .0 .0 .0 .0 .0 .0 .0 .1) (none .0 .0 .0 .0 .0 .0 .0 .0 .0 .0 .0 .1) (none .0 .0 .0 .0 .0 .0 .0 .0 .0 .0 .1) (none .0 .0 .0 .0 .0 .0 .0 .0 .0 .1) (none .0 .0 .0 .0 .0 .0 .0 .0 .1) (none .0 .0 .0 .0 .0 .0 .0 .1) (none .0 .0 .0 .0 .0 .0 .1) (none .0 .0 .0 .0 .0 .1) (none .0 .0 .0 .0 .1) (none .0 .0 .0 .1) (none .0 .0 .1) (none .0 .1))) (a .focus) _ (paid-left (c .before .before .before .rest .given .1) (c .before .before .before .before .before .take .ensures)) (met-stuck (a .at) _ refl)
 
 pub met : {M : Type 1} (t : ℕ) → lts.Closed (statement-claims t) (statement-at t) statement-reads.Post M
-met t = lts.spec (statement-claims t) (statement-at t) statement-reads.Post (returns t) (take-requires t) (enum-told t) (enum-known-rest t) (statement-row-requires t) (sub-pair t) (pair-requires t) (sub-choose t) (choose-requires t) (sub-insert t) (insert-requires t) (rename-requires t) (sub-let-in t) (let-in-requires t) (sub-snapshot t) (snapshot-requires t) (sub-test t) (test-requires t) (sub-children t) (children-requires t) (sub-left t) (left-requires t) (sub-right t) (right-requires t) (sub-iter t) (iter-requires t) (sub-call t) (call-requires t) (returns-2 t) (returns-3 t) (same-length t) (returns-4 t) (same-length-2 t) (returns-5 t) (same-length-3 t) (returns-6 t) (returns-7 t) (same-length-4 t) (returns-8 t) (same-length-5 t) (returns-9 t) (same-length-6 t) (returns-10 t) (same-length-7 t) (returns-11 t) (same-length-8 t) (returns-12 t) (same-length-9 t) (returns-13 t) (same-length-10 t) (returns-14 t) (same-length-11 t) (returns-15 t) (same-length-12 t) (returns-16 t) (returns-17 t) (returns-18 t)
+met t = lts.spec (statement-claims t) (statement-at t) statement-reads.Post (returns t) (take-requires t) (enum-told t) (enum-known-rest t) (statement-row-requires t) (sub-below t) (pair-requires t) (choose-requires t) (insert-requires t) (rename-requires t) (let-in-requires t) (snapshot-requires t) (test-requires t) (children-requires t) (left-requires t) (right-requires t) (iter-requires t) (call-requires t) (returns-2 t) (returns-3 t) (same-length t) (returns-4 t) (same-length-2 t) (returns-5 t) (same-length-3 t) (returns-6 t) (returns-7 t) (same-length-4 t) (returns-8 t) (same-length-5 t) (returns-9 t) (same-length-6 t) (returns-10 t) (same-length-7 t) (returns-11 t) (same-length-8 t) (returns-12 t) (same-length-9 t) (returns-13 t) (same-length-10 t) (returns-14 t) (same-length-11 t) (returns-15 t) (same-length-12 t) (returns-16 t) (returns-17 t) (returns-18 t)

@@ -1,13 +1,12 @@
--- `ask::same_bytes` meets its contract: what is still to be compared decides, from the first byte on.
+-- `texts::same_bytes` meets its contract: what is still to be compared decides, from the first byte on.
 use native.Mathlib.Omega.{arith}
 use mathlib.Core.Path.{_≡_, sym, ap, _∙_}
 use Prim.Native.Nat.{ℕ, _+_, _-_, _≤_}
 use Rattle.meaning.specs.Forest.{bytesFrom, sameBytes}
-use Rattle.ask.specs.Ask.{pool}
-use Rattle.ask.proofs.Bytes.{pool-byte, pool-small, other-size, rest, rest-start, rest-more, rest-other, rest-none}
+use Rattle.texts.proofs.Bytes.{pool, pool-byte, pool-small, other-size, rest, rest-start, rest-more, rest-other, rest-none}
 use borrow.Author.Needs.{needs}
-use Rattle.ask.proofs.same_bytes.Statement.{statement}
-use Rattle.ask.proofs.same_bytes.Tie as tie
+use Rattle.texts.proofs.same_bytes.Statement.{statement}
+use Rattle.texts.proofs.same_bytes.Tie as tie
 
 abbrev Inv-loop : tie.InvT-loop
 Inv-loop s o n p m at i₀ i = (i ≤ n) × (sameBytes (bytesFrom (pool s) o n) (bytesFrom (pool s) p n) ≡ rest (pool s) o p n i)

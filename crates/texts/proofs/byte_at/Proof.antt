@@ -1,10 +1,10 @@
--- `ask::byte_at` meets its contract: past the end, or the byte.
+-- `texts::byte_at` meets its contract: past the end, or the byte.
 use native.Mathlib.Omega.{arith}
 use mathlib.Core.Path.{sym}
 use lib.ListN.{List·getD-eq-default}
 use borrow.Author.Needs.{needs}
-use Rattle.ask.proofs.byte_at.Statement.{statement}
-use Rattle.ask.proofs.byte_at.Tie as tie
+use Rattle.texts.proofs.byte_at.Statement.{statement}
+use Rattle.texts.proofs.byte_at.Tie as tie
 
 returns : tie.Need-returns
 returns c = sym (List·getD-eq-default (c .before .before .args .s .now) 0 {n = c .before .before .args .i} (omega arith))

@@ -11,17 +11,19 @@ use Rattle.meaning.specs.Sheet.{groveOf, pool-at}
 use Rattle.meaning.specs.Forest.{bytesFrom, sameBytes}
 use Rattle.sheet.specs.Laid.{Laid}
 use Rattle.sheet.specs.declared.Layout.{Layout}
-use Rattle.ask.specs.Ask.{Lay, laid-of, pool}
+use Rattle.meaning.specs.Laws.Bools.{no-right}
+
+abbrev pub pool : List ℕ → ℕ → ℕ
+pool s = groveOf s .byte
 
 -- a byte of the pool, where the layout says that it begins
-pub pool-byte : (s : List ℕ) (l : Layout) (i j : ℕ) → Lay s l → j ≡ 2 * (l .«pool_at») + i → getD s j 0 ≡ pool s i
+pub pool-byte : (s : List ℕ) (l : Layout) (i j : ℕ) → Laid s l → j ≡ 2 * (l .«pool_at») + i → getD s j 0 ≡ pool s i
 unfolding groveOf
-pool-byte s l i j h e = ap (λ (k : ℕ). getD s k 0) (e ∙ ap (λ (k : ℕ). 2 * k + i) (laid-of s l h .pool-at))
+pool-byte s l i j h e = ap (λ (k : ℕ). getD s k 0) (e ∙ ap (λ (k : ℕ). 2 * k + i) (h .pool-at))
 
 -- every place in the sheet is a small number
-pub pool-small : (s : List ℕ) (l : Layout) → Lay s l → l .«pool_at» < 4194304
-pool-small s l h =
-    let L : Laid s l = laid-of s l h in
+pub pool-small : (s : List ℕ) (l : Layout) → Laid s l → l .«pool_at» < 4194304
+pool-small s l L =
     omega (arith, L .pool-at, L .names, L .types, L .queries, L .statements, L .procedures, L .rows, L .few-names, L .few-types, L .few-queries, L .few-statements, L .few-procedures, L .few-rows)
 
 module _ (byte : ℕ → ℕ) where
@@ -31,11 +33,7 @@ module _ (byte : ℕ → ℕ) where
   other-size o p zero zero h = absurd (h refl)
   other-size o p zero (suc m) h = refl
   other-size o p (suc n) zero h = refl
-  other-size o p (suc n) (suc m) h = go (eqb (byte o) (byte p)) (other-size (suc o) (suc p) n m (λ e. h (ap suc e)))
-    where
-      go : (b : Bool) {c : Bool} → c ≡ false → b && c ≡ false
-      go true e = e
-      go false e = refl
+  other-size o p (suc n) (suc m) h = no-right (eqb (byte o) (byte p)) (other-size (suc o) (suc p) n m (λ e. h (ap suc e)))
 
   -- what is still to be compared, i bytes on
   abbrev pub rest : ℕ → ℕ → ℕ → ℕ → Bool

@@ -1,8 +1,8 @@
--- `tell::row_lines` is safe and ends: the rows left fall.
+-- `fields::row_lines` is safe and ends: the rows left fall.
 use Prim.Native.Nat.{_+_, _-_, _<_}
 use borrow.Author.Needs.{needs}
-use Rattle.tell.proofs.row_lines.Statement.{statement}
-use Rattle.tell.proofs.row_lines.Tie as tie
+use Rattle.fields.proofs.row_lines.Statement.{statement}
+use Rattle.fields.proofs.row_lines.Tie as tie
 
 abbrev Inv-loop : tie.InvT-loop
 Inv-loop result root r₀ r = 0 < r

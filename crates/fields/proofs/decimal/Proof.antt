@@ -1,9 +1,9 @@
--- `tell::decimal` is safe and ends: the bytes left fall.
+-- `fields::decimal` is safe and ends: the bytes left fall.
 use Prim.Native.Nat.{_-_, _≤_}
 use lib.ListN.{length}
 use borrow.Author.Needs.{needs}
-use Rattle.tell.proofs.decimal.Statement.{statement}
-use Rattle.tell.proofs.decimal.Tie as tie
+use Rattle.fields.proofs.decimal.Statement.{statement}
+use Rattle.fields.proofs.decimal.Tie as tie
 
 abbrev Inv-loop : tie.InvT-loop
 Inv-loop text x₀ i₀ x i = i ≤ length text

@@ -1,0 +1,2 @@
+-- What becomes of a result.
+pub mod Hands
