@@ -1,14 +1,11 @@
 // The places of type rows: which rows may be empty, what may stand first at each, and what may stand next behind each. End is place 0.
 // A table of `n` type rows is lent as bytes and the word `at` at which it begins: a sheet's own, or a type written out.
-use sheet::Layout;
 ghost use mathlib.Core.Path.{_≡_};
 ghost use mathlib.Core.Bool.{true, false};
-ghost use Prim.Native.Nat.{ℕ, _+_, _<_, _≤_};
+ghost use Prim.Native.Nat.{_+_, _<_, _≤_};
 ghost use lib.ListN.{length};
-ghost use lib.Dec.{eqb};
 ghost use Rattle.meaning.specs.Sheet.{row3};
 ghost use Rattle.meaning.specs.Places.{nullable};
-ghost use Rattle.sheet.specs.Laid.{Laid};
 ghost use Rattle.barren.specs.Flags.{flag};
 ghost use Rattle.places.specs.Tables.{Rows, rowModel, Nulls, Firsts, Tables, Passed, Ready, Fell, Ended, Free, Wires};
 ghost use Rattle.bits.specs.Sets.{Clear};

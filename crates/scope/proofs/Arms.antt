@@ -10,8 +10,8 @@ use lib.Dec.{eqb}
 use lib.ListN.{getD}
 use Rattle.meaning.specs.Sheet.{Cells}
 use Rattle.meaning.specs.Shape.{Use, own, asking, Scope, a-forest, has-place, in-scope, holds-tree}
-use Rattle.scope.specs.Scopes.{Hand, hand-of, put, after, seen, with-forest, with-tree, takes, statement-parts, statement-asks, query-parts, statement-rule, query-rule, Words, Handed, Bound, QueryDone, StatementDone}
-use Rattle.scope.proofs.Hands.{after-same, handed-none}
+use Rattle.hands.specs.Scopes.{Hand, hand-of, put, after, seen, with-forest, with-tree, takes, statement-parts, statement-asks, query-parts, statement-rule, query-rule, Words, Handed, Bound, QueryDone, StatementDone}
+use Rattle.hands.specs.Hands.{after-same, handed-none}
 use Rattle.meaning.specs.Laws.Shaped.{cells}
 use Rattle.scope.proofs.ByKind.{by-14, by-15, tester-own, tester-asks, argument-own}
 

@@ -8,8 +8,8 @@ use Rattle.meaning.specs.Laws.Bools.{and-left, and-right, and-both}
 use Rattle.meaning.specs.Laws.Shaped.{cells}
 use Rattle.meaning.specs.Kinds.{queryForm, statementForm}
 use Rattle.meaning.specs.Shape.{Use, own, asking, Scope, has-place, query-scope, statement-scope, arguments-scope}
-use Rattle.scope.specs.Scopes.{Each, none, more, takes, with-forest, with-tree, statement-parts, statement-asks, query-parts, statement-rule, query-rule}
-use Rattle.scope.proofs.Hands.{each-head, each-tail}
+use Rattle.hands.specs.Scopes.{Each, none, more, takes, with-forest, with-tree, statement-parts, statement-asks, query-parts, statement-rule, query-rule}
+use Rattle.hands.specs.Hands.{each-head, each-tail}
 
 pub by-14 : (P : ℕ → Type 0) → P 0 → P 1 → P 2 → P 3 → P 4 → P 5 → P 6 → P 7 → P 8 → P 9 → P 10 → P 11 → P 12 → P 13 → ((k : ℕ) → P (suc (suc (suc (suc (suc (suc (suc (suc (suc (suc (suc (suc (suc (suc k))))))))))))))) → (k : ℕ) → P k
 by-14 P c0 c1 c2 c3 c4 c5 c6 c7 c8 c9 c10 c11 c12 c13 past zero = c0

@@ -1,5 +1,3 @@
-pub mod Places
-pub mod Hands
 pub mod ByKind
 pub mod Once
 pub mod Pass

@@ -13,8 +13,8 @@ use Rattle.meaning.specs.Shape.{Scope, parameters-scope, scope-ok}
 use Rattle.meaning.specs.Laws.Words.{zeros}
 use Rattle.sheet.specs.Laid.{Laid}
 use Rattle.sheet.specs.declared.Layout.{Layout}
-use Rattle.scope.specs.Scopes.{places, scopeOf, seen, hand-of, after, Words, Handed, QueryDone, StatementDone, Rooted, Statements, Queries, Judged}
-use Rattle.scope.proofs.Places.{neat-small}
+use Rattle.hands.specs.Scopes.{places, scopeOf, seen, hand-of, after, Words, Handed, QueryDone, StatementDone, Rooted, Statements, Queries, Judged}
+use Rattle.hands.specs.Places.{neat-small}
 use Rattle.scope.proofs.Once.{Facts}
 use Rattle.scope.proofs.Pass.{one-body, main-no-body, statement-step, statement-refused, query-step, query-refused, all-scoped}
 

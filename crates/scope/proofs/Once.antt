@@ -11,8 +11,8 @@ use Rattle.meaning.specs.Laws.Bools.{and-left, and-right}
 use Rattle.meaning.specs.Laws.Tests.{in-table, table-low, table-high, total-both}
 use Rattle.meaning.specs.Sheet.{Cells, Procedure, Script, Sheet, scriptOf, sheetOf}
 use Rattle.meaning.specs.Shape.{Use, Uses, own, asking, Scope, hit, hits, queryUses, statementUses, wordOk, wordsOk, limits-ok, queries-ok, statements-ok, procedures-ok, roots-ok, users-ok, statement-users, query-users}
-use Rattle.scope.specs.Scopes.{Before, with-forest, with-tree, Each, given, handed, statement-parts, statement-asks, query-parts}
-use Rattle.scope.proofs.Hands.{handed-each}
+use Rattle.hands.specs.Scopes.{Before, with-forest, with-tree, Each, given, handed, statement-parts, statement-asks, query-parts}
+use Rattle.hands.specs.Hands.{handed-each}
 use Rattle.meaning.specs.Laws.Shaped.{cells, few, roots as roots-say, queries-say, statements-say, procedures-say, body-says, query-user, statement-user}
 use Rattle.scope.proofs.ByKind.{by-14, by-15}
 

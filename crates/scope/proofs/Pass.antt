@@ -14,8 +14,8 @@ use Rattle.meaning.specs.Laws.Tests.{every-at, every-all, total-at, total-some}
 use Rattle.meaning.specs.Sheet.{Cells, Script}
 use Rattle.meaning.specs.Kinds.{statementForm, present}
 use Rattle.meaning.specs.Shape.{Scope, own, asking, hit, hits, queryUses, statementUses, parameters-scope, statement-scope, query-scoped, statement-scoped, scope-ok}
-use Rattle.scope.specs.Scopes.{Each, given, after, statement-parts, statement-asks, query-parts, statement-rule, query-rule, Rooted, Statements, Queries}
-use Rattle.scope.proofs.Hands.{tally, tally-hits, tally-none, tally-own, found, each-map, each-both, after-none, after-once}
+use Rattle.hands.specs.Scopes.{Each, given, after, statement-parts, statement-asks, query-parts, statement-rule, query-rule, Rooted, Statements, Queries}
+use Rattle.hands.specs.Hands.{tally, tally-hits, tally-none, tally-own, found, each-map, each-both, after-none, after-once}
 use Rattle.scope.proofs.ByKind.{statement-in, statement-out, query-in, query-out}
 use Rattle.scope.proofs.Once.{Facts, total-only}
 

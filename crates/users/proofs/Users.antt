@@ -15,7 +15,7 @@ use Rattle.meaning.specs.Sheet.{sheetOf, scriptOf, groveOf, names-of, types-of,
 use Rattle.meaning.specs.Shape.{hit, hits, procedure-hits, own, asking, typeUses, queryUses, statementUses, forestUses, type-users, query-users, statement-users, row-users, limits-ok, users-ok}
 use Rattle.sheet.specs.Laid.{Laid}
 use Rattle.sheet.specs.declared.Layout.{Layout}
-use Rattle.users.specs.Tally.{Tally, Added}
+use Rattle.tally.specs.Tally.{Tally, Added}
 
 -- nothing counted yet
 abbrev pub no-users : List ℕ

@@ -8,14 +8,13 @@ ghost use mathlib.Core.Path.{_≡_};
 ghost use mathlib.Core.Bool.{true, _&&_, cond};
 ghost use Prim.Native.Nat.{_+_, _≤_};
 ghost use lib.Dec.{eqb};
-ghost use lib.ListN.{getD};
 ghost use Rattle.meaning.specs.Tests.{every, total};
 ghost use Rattle.meaning.specs.Sheet.{scriptOf, groveOf, sheetOf};
 ghost use Rattle.meaning.specs.Shape.{hit, hits, procedure-hits, typeUses, queryUses, statementUses, forestUses, type-users, query-users, statement-users, row-users, limits-ok, users-ok};
 ghost use Rattle.meaning.specs.Shape as meaning;
 ghost use Rattle.sheet.specs.Laid.{Laid, cellsOf};
 ghost use Rattle.kinds.specs.Told.{useOf, usesIn};
-ghost use Rattle.users.specs.Tally.{Tally, Added};
+ghost use Rattle.tally.specs.Tally.{Tally, Added};
 
 // Whether a word of this use refers to a row of its own table.
 fn own(u: Use) -> bool
@@ -53,28 +52,14 @@ fn asking(u: Use) -> bool
     }
 }
 
-// One more user of row `w`, if it is so.
-fn refer(tally: &mut [u8; 2049], so: bool, w: usize)
-    requires { ⌜ Tally (now tally) ⌝ }
-    ensures { λ _. ⌜ Added (now (tally .entry)) (now (tally .exit)) (λ r. cond (so && eqb w r) 1 0) ⌝ }
-{
-    if so {
-        if w <= 2048 {
-            if tally[w] < 2 {
-                tally[w] = tally[w] + 1;
-            }
-        }
-    }
-}
-
 // The words of a row, those for which it is so.
 fn refer_words(tally: &mut [u8; 2049], p: bool, q: bool, r: bool, c: Row)
     requires { ⌜ Tally (now tally) ⌝ }
     ensures { λ _. ⌜ Added (now (tally .entry)) (now (tally .exit)) (λ x. cond (p && eqb (c .p) x) 1 0 + cond (q && eqb (c .q) x) 1 0 + cond (r && eqb (c .r) x) 1 0) ⌝ }
 {
-    refer(tally, p, c.p);
-    refer(tally, q, c.q);
-    refer(tally, r, c.r);
+    tally::refer(tally, p, c.p);
+    tally::refer(tally, q, c.q);
+    tally::refer(tally, r, c.r);
 }
 
 fn refer_own(tally: &mut [u8; 2049], k: Kinds, c: Row)
@@ -112,10 +97,10 @@ fn refer_procedure(tally: &mut [u8; 2049], c: Procedure)
     requires { ⌜ Tally (now tally) ⌝ }
     ensures { λ _. ⌜ Added (now (tally .entry)) (now (tally .exit)) (λ r. hit r (c .first) + hit r (c .second) + hit r (c .input) + hit r (c .output)) ⌝ }
 {
-    refer(tally, true, c.first);
-    refer(tally, true, c.second);
-    refer(tally, true, c.input);
-    refer(tally, true, c.output);
+    tally::refer(tally, true, c.first);
+    tally::refer(tally, true, c.second);
+    tally::refer(tally, true, c.input);
+    tally::refer(tally, true, c.output);
 }
 
 fn by_types(s: &[u8], l: Layout, tally: &mut [u8; 2049])
@@ -139,7 +124,7 @@ fn by_names(s: &[u8], l: Layout, tally: &mut [u8; 2049])
     let mut i = 0;
     while i < l.names {
         i += 1;
-        refer(tally, true, sheet::name_row(s, l, i));
+        tally::refer(tally, true, sheet::name_row(s, l, i));
     }
 }
 
@@ -204,7 +189,7 @@ fn by_bodies(s: &[u8], l: Layout, tally: &mut [u8; 2049])
     while i < l.procedures {
         i += 1;
         let c = sheet::procedure_row(s, l, i);
-        refer(tally, true, c.body);
+        tally::refer(tally, true, c.body);
     }
 }
 
@@ -221,21 +206,6 @@ fn by_rows(s: &[u8], l: Layout, tally: &mut [u8; 2049])
     }
 }
 
-// Each of the rows 1 to `n` has one user.
-fn all_one(tally: &[u8; 2049], n: usize) -> bool
-    requires { ⌜ n ≤ 2048 ⌝ }
-    ensures { λ r. ⌜ r ≡ every (λ i. eqb (getD (now (tally .entry)) i 0) 1) n ⌝ }
-{
-    let mut i = 0;
-    while i < n {
-        i += 1;
-        if tally[i] != 1 {
-            return false;
-        }
-    }
-    true
-}
-
 fn types_once(s: &[u8], l: Layout) -> bool
     requires { ⌜ Laid (now s) l ⌝ }
     requires { ⌜ l .types ≤ 2048 ⌝ }
@@ -245,9 +215,9 @@ fn types_once(s: &[u8], l: Layout) -> bool
     by_types(s, l, &mut tally);
     by_names(s, l, &mut tally);
     by_procedures(s, l, &mut tally);
-    refer(&mut tally, true, l.a);
-    refer(&mut tally, true, l.b);
-    all_one(&tally, l.types)
+    tally::refer(&mut tally, true, l.a);
+    tally::refer(&mut tally, true, l.b);
+    tally::all_one(&tally, l.types)
 }
 
 fn queries_once(s: &[u8], l: Layout) -> bool
@@ -258,7 +228,7 @@ fn queries_once(s: &[u8], l: Layout) -> bool
     let mut tally = [0u8; 2049];
     by_queries(s, l, &mut tally);
     by_askers(s, l, &mut tally);
-    all_one(&tally, l.queries)
+    tally::all_one(&tally, l.queries)
 }
 
 fn statements_once(s: &[u8], l: Layout) -> bool
@@ -269,8 +239,8 @@ fn statements_once(s: &[u8], l: Layout) -> bool
     let mut tally = [0u8; 2049];
     by_statements(s, l, &mut tally);
     by_bodies(s, l, &mut tally);
-    refer(&mut tally, true, l.main);
-    all_one(&tally, l.statements)
+    tally::refer(&mut tally, true, l.main);
+    tally::all_one(&tally, l.statements)
 }
 
 fn rows_once(s: &[u8], l: Layout) -> bool
@@ -280,8 +250,8 @@ fn rows_once(s: &[u8], l: Layout) -> bool
 {
     let mut tally = [0u8; 2049];
     by_rows(s, l, &mut tally);
-    refer(&mut tally, true, l.root);
-    all_one(&tally, l.rows)
+    tally::refer(&mut tally, true, l.root);
+    tally::all_one(&tally, l.rows)
 }
 
 // Every type, query, statement and forest row has exactly one user. Within the limits every row has its place in the tally.

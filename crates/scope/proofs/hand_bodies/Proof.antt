@@ -2,7 +2,7 @@
 use borrow.Author.Needs.{needs}
 use Rattle.scope.proofs.Loops.{Bodies, bodies-none, bodies-more, bodies-all, procedures-are}
 use Rattle.scope.proofs.Once.{facts}
-use Rattle.scope.specs.Scopes.{scopeOf}
+use Rattle.hands.specs.Scopes.{scopeOf}
 use Rattle.meaning.specs.Shape.{parameters-scope}
 use Rattle.meaning.specs.Kinds.{present}
 use Rattle.meaning.specs.Sheet as meaning

@@ -1,5 +1,5 @@
 -- `scope::parameters` meets its contract: no parameter, one or two, each a forest.
-use Rattle.scope.proofs.Places.{none-first, none-second, two-parameters, neat-small}
+use Rattle.hands.specs.Places.{none-first, none-second, two-parameters, neat-small}
 use native.Mathlib.Omega.{arith}
 use Rattle.scope.proofs.parameters.Statement.{statement}
 use Rattle.scope.proofs.parameters.Tie as tie

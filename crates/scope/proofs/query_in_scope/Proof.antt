@@ -1,7 +1,7 @@
 -- `scope::query_in_scope` meets its contract, arm by arm (proofs/Arms.antt).
 use Rattle.scope.proofs.Arms.{query-0, query-1, query-2, query-3, query-7, query-8, query-9, query-11, query-12, query-13, query-idle, query-done, query-tested, query-bound}
-use Rattle.scope.proofs.Hands.{handed-more}
-use Rattle.scope.specs.Scopes.{scopeOf}
+use Rattle.hands.specs.Hands.{handed-more}
+use Rattle.hands.specs.Scopes.{scopeOf}
 use Rattle.sheet.specs.Laid.{cellsOf}
 use mathlib.Core.Path.{refl}
 use borrow.Author.Needs.{needs}

@@ -1,7 +1,7 @@
 -- `scope::statement_in_scope` meets its contract, arm by arm (proofs/Arms.antt).
 use Rattle.scope.proofs.Arms.{statement-0, statement-1, statement-2, statement-3, statement-4, statement-7, statement-8, statement-9, statement-14, statement-one, statement-idle, statement-done, statement-bound, call-handed}
-use Rattle.scope.proofs.Hands.{handed-none}
-use Rattle.scope.specs.Scopes.{scopeOf}
+use Rattle.hands.specs.Hands.{handed-none}
+use Rattle.hands.specs.Scopes.{scopeOf}
 use Rattle.sheet.specs.Laid.{cellsOf}
 use native.Mathlib.Omega.{arith}
 use borrow.Author.Needs.{needs}

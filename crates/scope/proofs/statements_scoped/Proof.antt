@@ -3,7 +3,7 @@ use borrow.Author.Tests.{not-true, not-false}
 use borrow.Author.Needs.{needs}
 use Rattle.scope.proofs.Loops.{statements-are, statements-start, statement-more, statement-fails, statements-end}
 use Rattle.scope.proofs.Once.{facts}
-use Rattle.scope.specs.Scopes.{seen, Words, Statements}
+use Rattle.hands.specs.Scopes.{seen, Words, Statements}
 use Rattle.meaning.specs.Sheet.{scriptOf}
 use native.Mathlib.Omega.{arith}
 use Prim.Native.Nat.{_≤_}

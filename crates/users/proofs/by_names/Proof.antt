@@ -4,14 +4,14 @@ use native.Mathlib.Omega.{arith}
 use Prim.Native.Nat.{_-_}
 use Rattle.meaning.specs.Sheet.{scriptOf}
 use Rattle.meaning.specs.Shape.{hit}
-use Rattle.users.specs.Tally.{Added}
+use Rattle.tally.specs.Tally.{Added}
 use Rattle.users.proofs.Counts.{Counting, start, turn, done}
 use Rattle.users.proofs.by_names.Statement.{statement}
 use Rattle.users.proofs.by_names.Tie as tie
 use Rattle.users.proofs.by_names.Reads as reads
 use Rattle.users.proofs.by_names.Lts as lts
 use Rattle.sheet.proofs.name_row.Reads as name-row-reads
-use Rattle.users.proofs.refer.Reads as refer-reads
+use Rattle.tally.proofs.refer.Reads as refer-reads
 
 abbrev Inv-loop : tie.InvT-loop
 Inv-loop s l tally₀ i₀ tally i = Counting (λ r i. hit r (scriptOf s .nameRow i)) (l .names) tally₀ tally i

@@ -4,7 +4,7 @@ use native.Mathlib.Omega.{arith}
 use Prim.Native.Nat.{_-_}
 use Rattle.meaning.specs.Sheet.{scriptOf, sheetOf}
 use Rattle.meaning.specs.Shape.{procedure-hits}
-use Rattle.users.specs.Tally.{Added}
+use Rattle.tally.specs.Tally.{Added}
 use Rattle.users.proofs.Counts.{Counting, start, turn, done}
 use Rattle.users.proofs.by_procedures.Statement.{statement}
 use Rattle.users.proofs.by_procedures.Tie as tie

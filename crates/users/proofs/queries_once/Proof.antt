@@ -8,7 +8,7 @@ use Rattle.users.proofs.queries_once.Statement.{statement}
 use Rattle.users.proofs.queries_once.Tie as tie
 use Rattle.users.proofs.queries_once.Reads as reads
 use Rattle.users.proofs.queries_once.Lts as lts
-use Rattle.users.proofs.all_one.Reads as all-one-reads
+use Rattle.tally.proofs.all_one.Reads as all-one-reads
 use Rattle.users.proofs.by_askers.Reads as by-askers-reads
 use Rattle.users.proofs.by_queries.Reads as by-queries-reads
 

@@ -5,7 +5,7 @@ use Rattle.users.proofs.refer_words.Statement.{statement}
 use Rattle.users.proofs.refer_words.Tie as tie
 use Rattle.users.proofs.refer_words.Reads as reads
 use Rattle.users.proofs.refer_words.Lts as lts
-use Rattle.users.proofs.refer.Reads as refer-reads
+use Rattle.tally.proofs.refer.Reads as refer-reads
 
 refer-requires : tie.Need-refer-requires
 refer-requires c κs = search needs

@@ -8,9 +8,9 @@ use Rattle.users.proofs.rows_once.Statement.{statement}
 use Rattle.users.proofs.rows_once.Tie as tie
 use Rattle.users.proofs.rows_once.Reads as reads
 use Rattle.users.proofs.rows_once.Lts as lts
-use Rattle.users.proofs.all_one.Reads as all-one-reads
+use Rattle.tally.proofs.all_one.Reads as all-one-reads
 use Rattle.users.proofs.by_rows.Reads as by-rows-reads
-use Rattle.users.proofs.refer.Reads as refer-reads
+use Rattle.tally.proofs.refer.Reads as refer-reads
 
 by-rows-requires : tie.Need-by-rows-requires
 by-rows-requires c κs = (c .before .before .pre .0, fresh)

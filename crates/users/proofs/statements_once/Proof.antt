@@ -8,10 +8,10 @@ use Rattle.users.proofs.statements_once.Statement.{statement}
 use Rattle.users.proofs.statements_once.Tie as tie
 use Rattle.users.proofs.statements_once.Reads as reads
 use Rattle.users.proofs.statements_once.Lts as lts
-use Rattle.users.proofs.all_one.Reads as all-one-reads
+use Rattle.tally.proofs.all_one.Reads as all-one-reads
 use Rattle.users.proofs.by_bodies.Reads as by-bodies-reads
 use Rattle.users.proofs.by_statements.Reads as by-statements-reads
-use Rattle.users.proofs.refer.Reads as refer-reads
+use Rattle.tally.proofs.refer.Reads as refer-reads
 
 by-statements-requires : tie.Need-by-statements-requires
 by-statements-requires c κs = (c .before .before .pre .0, fresh)

@@ -8,11 +8,11 @@ use Rattle.users.proofs.types_once.Statement.{statement}
 use Rattle.users.proofs.types_once.Tie as tie
 use Rattle.users.proofs.types_once.Reads as reads
 use Rattle.users.proofs.types_once.Lts as lts
-use Rattle.users.proofs.all_one.Reads as all-one-reads
+use Rattle.tally.proofs.all_one.Reads as all-one-reads
 use Rattle.users.proofs.by_names.Reads as by-names-reads
 use Rattle.users.proofs.by_procedures.Reads as by-procedures-reads
 use Rattle.users.proofs.by_types.Reads as by-types-reads
-use Rattle.users.proofs.refer.Reads as refer-reads
+use Rattle.tally.proofs.refer.Reads as refer-reads
 
 by-types-requires : tie.Need-by-types-requires
 by-types-requires c κs = (c .before .before .pre .0, fresh)

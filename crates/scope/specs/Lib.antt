@@ -1,2 +1,0 @@
--- Scopes as words, and what each row hands to its parts.
-pub mod Scopes
