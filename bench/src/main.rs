@@ -15,7 +15,7 @@ use second::tables::Sheet;
 use std::path::Path;
 
 const USAGE: &str =
-    "usage: bench speed | bench agree SEED COUNT | bench repeat COUNT | bench bundles DIR";
+    "usage: bench speed | bench agree SEED COUNT | bench repeat COUNT | bench bundles DIR | bench counted | bench once PLACE";
 
 /// As many bytes as the largest sheet needs.
 const TABLES: usize = 88 * 508;
@@ -31,6 +31,8 @@ fn main() {
         }
         ["repeat", count] => repeat(count.parse().expect(USAGE)),
         ["bundles", folder] => write_bundles(Path::new(folder)),
+        ["counted"] => list_counted(),
+        ["once", place] => once(place.parse().expect(USAGE)),
         _ => panic!("{USAGE}"),
     }
 }
@@ -251,6 +253,53 @@ fn repeat(count: usize) {
     let mut tables = vec![0; TABLES];
     for _ in 0..count {
         assert_eq!(proved_read_and_fit(&input.bundle, &mut tables), 0);
+    }
+}
+
+/// What `bench/instructions` counts: the call, as the archive names it, and its input.
+fn counted() -> Vec<(&'static str, Input)> {
+    let mut all = vec![
+        ("bench_read", inputs::largest()),
+        ("bench_read", inputs::p1()),
+        ("bench_fit", inputs::largest()),
+        ("bench_fit", inputs::largest_wide()),
+        ("bench_fit", inputs::p1()),
+    ];
+    if cfg!(feature = "run") {
+        all.extend([
+            ("bench_run", inputs::groups(64)),
+            ("bench_run", inputs::groups(0)),
+            ("bench_run", inputs::nested_loops(9, 4096)),
+            ("bench_run", inputs::few_touched()),
+            ("bench_run", inputs::p1()),
+        ]);
+    }
+    all
+}
+
+fn list_counted() {
+    for (place, (call, input)) in counted().iter().enumerate() {
+        println!("{place} {call} {}", input.name);
+    }
+}
+
+/// One call, for a profiler that counts while it runs.
+fn once(place: usize) {
+    let (call, input) = counted().swap_remove(place);
+    if call == "bench_read" {
+        assert_eq!(proved::read(&input.bundle, &mut vec![0; TABLES]), 0);
+        return;
+    }
+    let tables = tables_of(&input);
+    if call == "bench_fit" {
+        assert_eq!(proved::fit(&tables, input.sheet.a), 0);
+        return;
+    }
+    #[cfg(feature = "run")]
+    {
+        use second::answers::{RESULT_ROWS, WORKING_ROWS};
+        let (mut working, mut result) = (vec![0; 8 * WORKING_ROWS], vec![0; 8 * RESULT_ROWS]);
+        assert_eq!(proved::run(&tables, &mut working, &mut result) % 65536, 0);
     }
 }
 

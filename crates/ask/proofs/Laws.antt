@@ -13,7 +13,6 @@ use Rattle.meaning.specs.Walk.{Unasked, Quiet, halt, ret, _>>=_, of-query, stuc
 use Rattle.meaning.specs.Run.{Seen, a-text, a-bool, seen, inside, branch, same-texts, copied, query-of, each}
 use Rattle.meaning.specs.Laws.Walk.{leads-then}
 use Rattle.meaning.specs.Theorems.ReadBack.{lentRow}
-use Rattle.sheet.specs.declared.Layout.{Layout}
 use Rattle.walk.specs.Scope.{valueOf, More, scoped-with, env-at}
 use Rattle.walk.specs.Meets.{Roomy, Ready, Finished, Stopped, Meets, met-as, met-of, met-ret, met-then, met-stop, stop-then, stop-leads, stop-stuck, forest-kept}
 use Rattle.walk.specs.Loop.{Links, Turned, Turns, turns-stop, alone, gathered, turnOf, keepOf}
@@ -128,13 +127,13 @@ module _ (s : List ℕ) (d at v : ℕ) {rows : List ℕ} {e : Scope} {used focus
 
 -- ---- a turn: row `at` is read and its tree written alone, in the row after
 
-module _ (s : List ℕ) {l : Layout} {rows t : List ℕ} {e e' : Scope} (d body : ℕ) {used at left row : ℕ} (left' : ℕ) (c : Cells) (a : Asks s l rows e used at left (fits-body s d e body)) (some : 0 < at) (pd : left' + 1 ≡ left)
+module _ (s : List ℕ) {rows t : List ℕ} {e e' : Scope} (d body : ℕ) {used at left row : ℕ} (left' : ℕ) (c : Cells) (a : Asks s rows e used at left (fits-body s d e body)) (some : 0 < at) (pd : left' + 1 ≡ left)
     (is : c ≡ lentRow rows at) (push : Pushed rows t used (record { kind = c .kind; p = c .p; q = c .q; r = 0 })) (isrow : row ≡ used + 1) (more : More e e' 2 row) where
-  pub turn-asks : length t ≡ length rows → Asks s l t e' row 0 left' (fits s d e' body)
+  pub turn-asks : length t ≡ length rows → Asks s t e' row 0 left' (fits s d e' body)
   turn-asks len =
       let r = one-ready (pool s) left' c (a .ready .roomy) some (a .ready .focus) pd is push isrow (a .ready .scoped) len in
       let fit = fits-turn s d e body (a .scope) in
-      record { laid = a .laid; ready = record { roomy = r .roomy; scoped = scoped-with (r .scoped) (a-place (a .ready .scoped) (fit .0)) (omega arith) more; focus = omega arith }; scope = fits-more s d e body more (fit .1) }
+      record { whole = a .whole; ready = record { roomy = r .roomy; scoped = scoped-with (r .scoped) (a-place (a .ready .scoped) (fit .0)) (omega arith) more; focus = omega arith }; scope = fits-more s d e body more (fit .1) }
 
   turn-body : asked s t e' d body ≡ body-asked s rows e d body (forestAt (pool s) (lentRow t) row)
   turn-body = asked-with s rows t (a .ready .roomy .low) (push .same) (a .ready .scoped) d body more
@@ -156,7 +155,7 @@ module _ (s : List ℕ) {l : Layout} {rows t : List ℕ} {e e' : Scope} (d body 
 
 -- ---- the loop
 
-module _ (s : List ℕ) {l : Layout} {rows : List ℕ} {e : Scope} (d body : ℕ) {used over left : ℕ} (a : Asks s l rows e used over left (fits-body s d e body)) where
+module _ (s : List ℕ) {rows : List ℕ} {e : Scope} (d body : ℕ) {used over left : ℕ} (a : Asks s rows e used over left (fits-body s d e body)) where
   abbrev start : Forest → Quiet Forest
   start = body-asked s rows e d body
 
@@ -164,8 +163,8 @@ module _ (s : List ℕ) {l : Layout} {rows : List ℕ} {e : Scope} (d body : ℕ
   each-start = loop-start start (pool s) (a .ready .roomy) (a .ready .focus)
 
   module _ {t : List ℕ} {at link n left' : ℕ} (g : Looping (body-asked s rows e d body) (pool s) rows t used over left at link n left') where
-    pub each-asks : length t ≡ length rows → Asks s l t e n at left' (fits-body s d e body)
-    each-asks len = record { laid = a .laid; ready = loop-ready start (pool s) (a .ready .roomy) (a .ready .focus) g (a .ready .scoped) len; scope = a .scope }
+    pub each-asks : length t ≡ length rows → Asks s t e n at left' (fits-body s d e body)
+    each-asks len = record { whole = a .whole; ready = loop-ready start (pool s) (a .ready .roomy) (a .ready .focus) g (a .ready .scoped) len; scope = a .scope }
 
     pub each-gather : length t ≡ length rows → GatherAsks t n link
     each-gather len = loop-asks start (pool s) (a .ready .roomy) (a .ready .focus) g len

@@ -17,8 +17,8 @@ use Rattle.meaning.specs.Run.{query, query-of}
 use Rattle.meaning.specs.Laws.Bools.{and-left, and-right}
 use Rattle.meaning.specs.Laws.Rows.{LowRows, SameRows}
 use Rattle.meaning.specs.Theorems.ReadBack.{lentRow}
-use Rattle.sheet.specs.Laid.{Laid, cellsOf}
-use Rattle.sheet.specs.declared.Layout.{Layout}
+use Rattle.sheet.specs.Laid.{cellsOf}
+use Rattle.sheet.specs.Whole.{Whole}
 use Rattle.sheet.specs.declared.Row.{Row}
 use Rattle.walk.specs.Scope.{live, envOf, Scoped, More, scoped-with, env-same, env-with}
 use Rattle.walk.specs.Meets.{Ready, Finished, Stopped, Meets, Ran, ran-tick, stop-tick, stop-depth, ready-after, ready-less}
@@ -27,18 +27,6 @@ use Rattle.walk.specs.declared.Scope.{Scope}
 use Rattle.walk.specs.declared.Purse.{Purse}
 use Rattle.walk.specs.declared.Answer.{Answer}
 use Rattle.walk.specs.declared.Stop.the-variants.{Fuel, Depth}
-
--- the layout is the sheet's, as one fact
-unfoldable pub Lay : List ℕ → Layout → Type 0
-Lay s l = Laid s l
-
-pub lay-of : (s : List ℕ) (l : Layout) → Laid s l → Lay s l
-unfolding Lay
-lay-of s l h = h
-
-pub laid-of : (s : List ℕ) (l : Layout) → Lay s l → Laid s l
-unfolding Lay
-laid-of s l h = h
 
 -- ---- a scope's shape: a place of kind 2 holds a tree
 
@@ -79,27 +67,27 @@ body-asked s rows e d at = λ t. query (scriptOf s) (pool s) d (envOf (pool s) r
 
 -- ---- what an evaluator asks
 
-pub record Asks (s : List ℕ) (l : Layout) (rows : List ℕ) (e : Scope) (used focus left : ℕ) (fit : Bool) : Type 0 where
-  pub laid : Lay s l
+pub record Asks (s : List ℕ) (rows : List ℕ) (e : Scope) (used focus left : ℕ) (fit : Bool) : Type 0 where
+  pub whole : Whole s
   pub ready : Ready rows e used focus left
   pub scope : fit ≡ true
 
-module _ {s : List ℕ} {l : Layout} {rows : List ℕ} {e : Scope} {used focus left : ℕ} {fit : Bool} (a : Asks s l rows e used focus left fit) where
+module _ {s : List ℕ} {rows : List ℕ} {e : Scope} {used focus left : ℕ} {fit : Bool} (a : Asks s rows e used focus left fit) where
   -- a part, at once
-  pub asks-part : {fit' : Bool} → fit' ≡ true → Asks s l rows e used focus left fit'
-  asks-part h = record { laid = a .laid; ready = a .ready; scope = h }
+  pub asks-part : {fit' : Bool} → fit' ≡ true → Asks s rows e used focus left fit'
+  asks-part h = record { whole = a .whole; ready = a .ready; scope = h }
 
   -- with units paid
-  pub asks-less : {fit' : Bool} (left' n focus' : ℕ) → left' + n ≡ left → focus' ≤ used → fit' ≡ true → Asks s l rows e used focus' left' fit'
-  asks-less left' n focus' p h f = record { laid = a .laid; ready = ready-less left' n focus' (a .ready) p h; scope = f }
+  pub asks-less : {fit' : Bool} (left' n focus' : ℕ) → left' + n ≡ left → focus' ≤ used → fit' ≡ true → Asks s rows e used focus' left' fit'
+  asks-less left' n focus' p h f = record { whole = a .whole; ready = ready-less left' n focus' (a .ready) p h; scope = f }
 
   -- from where an evaluator left off
-  pub asks-after : {w : Quiet Forest} {byte : ℕ → ℕ} {t : List ℕ} {fit' : Bool} {root used' left' : ℕ} (focus' : ℕ) → length t ≡ length rows → Finished w byte left used rows t root used' left' → focus' ≤ used' → fit' ≡ true → Asks s l t e used' focus' left' fit'
-  asks-after focus' n f h g = record { laid = a .laid; ready = ready-after focus' (a .ready) n f h; scope = g }
+  pub asks-after : {w : Quiet Forest} {byte : ℕ → ℕ} {t : List ℕ} {fit' : Bool} {root used' left' : ℕ} (focus' : ℕ) → length t ≡ length rows → Finished w byte left used rows t root used' left' → focus' ≤ used' → fit' ≡ true → Asks s t e used' focus' left' fit'
+  asks-after focus' n f h g = record { whole = a .whole; ready = ready-after focus' (a .ready) n f h; scope = g }
 
   -- with a place more
-  pub asks-with : {e' : Scope} {fit' : Bool} {k v : ℕ} → More e e' k v → e .count < 16 → v ≤ used → fit' ≡ true → Asks s l rows e' used focus left fit'
-  asks-with {e'} m h i g = record { laid = a .laid; ready = record { roomy = a .ready .roomy; scoped = scoped-with (a .ready .scoped) h i m; focus = a .ready .focus }; scope = g }
+  pub asks-with : {e' : Scope} {fit' : Bool} {k v : ℕ} → More e e' k v → e .count < 16 → v ≤ used → fit' ≡ true → Asks s rows e' used focus left fit'
+  asks-with {e'} m h i g = record { whole = a .whole; ready = record { roomy = a .ready .roomy; scoped = scoped-with (a .ready .scoped) h i m; focus = a .ready .focus }; scope = g }
 
 -- ---- Shape's test, taken apart
 

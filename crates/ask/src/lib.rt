@@ -4,7 +4,6 @@ use rows::front;
 use rows::keep;
 use rows::make;
 use rows::picked;
-use sheet::Layout;
 use walk::Answer;
 use walk::Purse;
 use walk::Scope;
@@ -20,7 +19,7 @@ ghost use Rattle.meaning.specs.Theorems.ReadBack.{lentRow};
 ghost use Rattle.walk.specs.Meets.{Roomy, Meets, Ran};
 ghost use Rattle.walk.specs.Loop.{Links, Turns, alone, gathered, turnOf};
 ghost use Rattle.rows.specs.Rows.{Readable};
-ghost use Rattle.ask.specs.Ask.{Lay, Asks, pool, fits, fits-row, fits-body, asked, row-asked, body-asked};
+ghost use Rattle.ask.specs.Ask.{Asks, pool, fits, fits-row, fits-body, asked, row-asked, body-asked};
 
 // The kind of a bool's row.
 fn kind_of(b: bool) -> usize
@@ -32,7 +31,6 @@ fn kind_of(b: bool) -> usize
 // Both sides are single texts, else Stuck.
 fn same_texts(
     s: &[u8],
-    l: Layout,
     rows: &mut [u8],
     used: usize,
     at: usize,
@@ -40,7 +38,7 @@ fn same_texts(
     y: usize,
     purse: Purse,
 ) -> Answer
-    requires { ⌜ (Lay (now s) l) × (Roomy (now rows) used (purse .left)) × (x ≤ used) × (y ≤ used) ⌝ }
+    requires { ⌜ (Roomy (now rows) used (purse .left)) × (x ≤ used) × (y ≤ used) ⌝ }
     ensures { λ r. ⌜ Meets (same-texts (of-query at) (seen (forestAt (pool (now (s .entry))) (lentRow (now (rows .entry))) x)) (seen (forestAt (pool (now (s .entry))) (lentRow (now (rows .entry))) y))) (pool (now (s .entry))) (purse .left) used (now (rows .entry)) (now (rows .exit)) r ⌝ }
 {
     match rows::look(rows, x) {
@@ -48,7 +46,7 @@ fn same_texts(
             Seen::Text(p, m) => make(
                 rows,
                 used,
-                kind_of(texts::same_bytes(s, l, o, n, p, m)),
+                kind_of(texts::same_bytes(s, o, n, p, m)),
                 0,
                 0,
                 purse,
@@ -83,7 +81,6 @@ fn children(rows: &[u8], root: usize) -> usize
 // Query row `at`.
 pub fn query(
     s: &[u8],
-    l: Layout,
     rows: &mut [u8],
     scope: Scope,
     used: usize,
@@ -91,7 +88,7 @@ pub fn query(
     depth: usize,
     purse: Purse,
 ) -> Answer
-    requires { ⌜ Asks (now s) l (now rows) scope used 0 (purse .left) (fits (now s) depth scope at) ⌝ }
+    requires { ⌜ Asks (now s) (now rows) scope used 0 (purse .left) (fits (now s) depth scope at) ⌝ }
     ensures { λ r. ⌜ Ran (asked (now (s .entry)) (now (rows .entry)) scope depth at) (pool (now (s .entry))) (purse .left) used (now (rows .entry)) (now (rows .exit)) r ⌝ }
 {
     if depth == 0 {
@@ -100,7 +97,7 @@ pub fn query(
     match purse.take() {
         Taken::Fuel => Answer::Not(Stop::Fuel),
         Taken::Left(rest) => {
-            let c = sheet::query_row(s, l, at);
+            let c = sheet::query_at(s, at);
             let kind = c.kind;
             match kind {
                 1 => Answer::Done {
@@ -108,8 +105,8 @@ pub fn query(
                     used,
                     purse: rest,
                 },
-                2 => join(s, l, rows, scope, used, c.p, c.q, depth - 1, rest),
-                3 => tree(s, l, rows, scope, used, c.p, c.q, depth - 1, rest),
+                2 => join(s, rows, scope, used, c.p, c.q, depth - 1, rest),
+                3 => tree(s, rows, scope, used, c.p, c.q, depth - 1, rest),
                 4 => make(rows, used, 1, c.p, c.q, rest),
                 5 => make(rows, used, 3, 0, 0, rest),
                 6 => make(rows, used, 2, 0, 0, rest),
@@ -118,16 +115,16 @@ pub fn query(
                     used,
                     purse: rest,
                 },
-                8 => let_in(s, l, rows, scope, used, c.p, c.q, depth - 1, rest),
-                9 => choose(s, l, rows, scope, used, at, c.p, c.q, c.r, depth - 1, rest),
-                10 => same(s, l, rows, scope, used, at, c.p, c.q, depth - 1, rest),
+                8 => let_in(s, rows, scope, used, c.p, c.q, depth - 1, rest),
+                9 => choose(s, rows, scope, used, at, c.p, c.q, c.r, depth - 1, rest),
+                10 => same(s, rows, scope, used, at, c.p, c.q, depth - 1, rest),
                 11 => Answer::Done {
                     root: children(rows, scope.value(c.p)),
                     used,
                     purse: rest,
                 },
-                12 => pick(s, l, rows, scope, used, c.p, c.q, depth - 1, rest),
-                13 => for_each(s, l, rows, scope, used, c.p, c.q, depth - 1, rest),
+                12 => pick(s, rows, scope, used, c.p, c.q, depth - 1, rest),
+                13 => for_each(s, rows, scope, used, c.p, c.q, depth - 1, rest),
                 0 | 14..=65535 => Answer::Not(Stop::Stuck(at, 1, rest)),
             }
         }
@@ -137,7 +134,6 @@ pub fn query(
 // One forest, copied, in front of another.
 fn join(
     s: &[u8],
-    l: Layout,
     rows: &mut [u8],
     scope: Scope,
     used: usize,
@@ -146,16 +142,16 @@ fn join(
     depth: usize,
     purse: Purse,
 ) -> Answer
-    requires { ⌜ Asks (now s) l (now rows) scope used 0 (purse .left) (fits-row (now s) depth scope (Query.join p q)) ⌝ }
+    requires { ⌜ Asks (now s) (now rows) scope used 0 (purse .left) (fits-row (now s) depth scope (Query.join p q)) ⌝ }
     ensures { λ r. ⌜ Meets (row-asked (now (s .entry)) (now (rows .entry)) scope depth 0 (Query.join p q)) (pool (now (s .entry))) (purse .left) used (now (rows .entry)) (now (rows .exit)) r ⌝ }
 {
-    match query(s, l, rows, scope, used, p, depth, purse) {
+    match query(s, rows, scope, used, p, depth, purse) {
         Answer::Not(why) => Answer::Not(why),
         Answer::Done {
             root: x,
             used: n,
             purse: left,
-        } => match query(s, l, rows, scope, n, q, depth, left) {
+        } => match query(s, rows, scope, n, q, depth, left) {
             Answer::Not(why) => Answer::Not(why),
             Answer::Done {
                 root: y,
@@ -169,7 +165,6 @@ fn join(
 // A labelled tree.
 fn tree(
     s: &[u8],
-    l: Layout,
     rows: &mut [u8],
     scope: Scope,
     used: usize,
@@ -178,10 +173,10 @@ fn tree(
     depth: usize,
     purse: Purse,
 ) -> Answer
-    requires { ⌜ (Asks (now s) l (now rows) scope used 0 (purse .left) (fits-row (now s) depth scope (Query.tree label q))) × (label < 65536) ⌝ }
+    requires { ⌜ (Asks (now s) (now rows) scope used 0 (purse .left) (fits-row (now s) depth scope (Query.tree label q))) × (label < 65536) ⌝ }
     ensures { λ r. ⌜ Meets (row-asked (now (s .entry)) (now (rows .entry)) scope depth 0 (Query.tree label q)) (pool (now (s .entry))) (purse .left) used (now (rows .entry)) (now (rows .exit)) r ⌝ }
 {
-    match query(s, l, rows, scope, used, q, depth, purse) {
+    match query(s, rows, scope, used, q, depth, purse) {
         Answer::Not(why) => Answer::Not(why),
         Answer::Done {
             root,
@@ -194,7 +189,6 @@ fn tree(
 // A query with a forest variable more.
 fn let_in(
     s: &[u8],
-    l: Layout,
     rows: &mut [u8],
     scope: Scope,
     used: usize,
@@ -203,23 +197,22 @@ fn let_in(
     depth: usize,
     purse: Purse,
 ) -> Answer
-    requires { ⌜ Asks (now s) l (now rows) scope used 0 (purse .left) (fits-row (now s) depth scope (Query.letin p q)) ⌝ }
+    requires { ⌜ Asks (now s) (now rows) scope used 0 (purse .left) (fits-row (now s) depth scope (Query.letin p q)) ⌝ }
     ensures { λ r. ⌜ Meets (row-asked (now (s .entry)) (now (rows .entry)) scope depth 0 (Query.letin p q)) (pool (now (s .entry))) (purse .left) used (now (rows .entry)) (now (rows .exit)) r ⌝ }
 {
-    match query(s, l, rows, scope, used, p, depth, purse) {
+    match query(s, rows, scope, used, p, depth, purse) {
         Answer::Not(why) => Answer::Not(why),
         Answer::Done {
             root,
             used: n,
             purse: left,
-        } => query(s, l, rows, scope.with(1, root), n, q, depth, left),
+        } => query(s, rows, scope.with(1, root), n, q, depth, left),
     }
 }
 
 // A condition is one bool, else Stuck at the if.
 fn choose(
     s: &[u8],
-    l: Layout,
     rows: &mut [u8],
     scope: Scope,
     used: usize,
@@ -230,10 +223,10 @@ fn choose(
     depth: usize,
     purse: Purse,
 ) -> Answer
-    requires { ⌜ Asks (now s) l (now rows) scope used 0 (purse .left) (fits-row (now s) depth scope (Query.if p q r)) ⌝ }
+    requires { ⌜ Asks (now s) (now rows) scope used 0 (purse .left) (fits-row (now s) depth scope (Query.if p q r)) ⌝ }
     ensures { λ a. ⌜ Meets (row-asked (now (s .entry)) (now (rows .entry)) scope depth at (Query.if p q r)) (pool (now (s .entry))) (purse .left) used (now (rows .entry)) (now (rows .exit)) a ⌝ }
 {
-    match query(s, l, rows, scope, used, p, depth, purse) {
+    match query(s, rows, scope, used, p, depth, purse) {
         Answer::Not(why) => Answer::Not(why),
         Answer::Done {
             root,
@@ -242,9 +235,9 @@ fn choose(
         } => match rows::look(rows, root) {
             Seen::Bool(b) => {
                 if b {
-                    query(s, l, rows, scope, n, q, depth, left)
+                    query(s, rows, scope, n, q, depth, left)
                 } else {
-                    query(s, l, rows, scope, n, r, depth, left)
+                    query(s, rows, scope, n, r, depth, left)
                 }
             }
             Seen::Nothing => Answer::Not(Stop::Stuck(at, 1, left)),
@@ -258,7 +251,6 @@ fn choose(
 // Whether two texts have the same bytes.
 fn same(
     s: &[u8],
-    l: Layout,
     rows: &mut [u8],
     scope: Scope,
     used: usize,
@@ -268,22 +260,22 @@ fn same(
     depth: usize,
     purse: Purse,
 ) -> Answer
-    requires { ⌜ Asks (now s) l (now rows) scope used 0 (purse .left) (fits-row (now s) depth scope (Query.same p q)) ⌝ }
+    requires { ⌜ Asks (now s) (now rows) scope used 0 (purse .left) (fits-row (now s) depth scope (Query.same p q)) ⌝ }
     ensures { λ r. ⌜ Meets (row-asked (now (s .entry)) (now (rows .entry)) scope depth at (Query.same p q)) (pool (now (s .entry))) (purse .left) used (now (rows .entry)) (now (rows .exit)) r ⌝ }
 {
-    match query(s, l, rows, scope, used, p, depth, purse) {
+    match query(s, rows, scope, used, p, depth, purse) {
         Answer::Not(why) => Answer::Not(why),
         Answer::Done {
             root: x,
             used: n,
             purse: left,
-        } => match query(s, l, rows, scope, n, q, depth, left) {
+        } => match query(s, rows, scope, n, q, depth, left) {
             Answer::Not(why) => Answer::Not(why),
             Answer::Done {
                 root: y,
                 used: m,
                 purse: rest,
-            } => same_texts(s, l, rows, m, at, x, y, rest),
+            } => same_texts(s, rows, m, at, x, y, rest),
         },
     }
 }
@@ -291,7 +283,6 @@ fn same(
 // The trees with a label.
 fn pick(
     s: &[u8],
-    l: Layout,
     rows: &mut [u8],
     scope: Scope,
     used: usize,
@@ -300,10 +291,10 @@ fn pick(
     depth: usize,
     purse: Purse,
 ) -> Answer
-    requires { ⌜ Asks (now s) l (now rows) scope used 0 (purse .left) (fits-row (now s) depth scope (Query.pick p label)) ⌝ }
+    requires { ⌜ Asks (now s) (now rows) scope used 0 (purse .left) (fits-row (now s) depth scope (Query.pick p label)) ⌝ }
     ensures { λ r. ⌜ Meets (row-asked (now (s .entry)) (now (rows .entry)) scope depth 0 (Query.pick p label)) (pool (now (s .entry))) (purse .left) used (now (rows .entry)) (now (rows .exit)) r ⌝ }
 {
-    match query(s, l, rows, scope, used, p, depth, purse) {
+    match query(s, rows, scope, used, p, depth, purse) {
         Answer::Not(why) => Answer::Not(why),
         Answer::Done {
             root,
@@ -316,7 +307,6 @@ fn pick(
 // The body for each tree of a forest.
 fn for_each(
     s: &[u8],
-    l: Layout,
     rows: &mut [u8],
     scope: Scope,
     used: usize,
@@ -325,23 +315,22 @@ fn for_each(
     depth: usize,
     purse: Purse,
 ) -> Answer
-    requires { ⌜ Asks (now s) l (now rows) scope used 0 (purse .left) (fits-row (now s) depth scope (Query.for p q)) ⌝ }
+    requires { ⌜ Asks (now s) (now rows) scope used 0 (purse .left) (fits-row (now s) depth scope (Query.for p q)) ⌝ }
     ensures { λ r. ⌜ Meets (row-asked (now (s .entry)) (now (rows .entry)) scope depth 0 (Query.for p q)) (pool (now (s .entry))) (purse .left) used (now (rows .entry)) (now (rows .exit)) r ⌝ }
 {
-    match query(s, l, rows, scope, used, p, depth, purse) {
+    match query(s, rows, scope, used, p, depth, purse) {
         Answer::Not(why) => Answer::Not(why),
         Answer::Done {
             root,
             used: n,
             purse: left,
-        } => each(s, l, rows, scope, n, q, root, depth, left),
+        } => each(s, rows, scope, n, q, root, depth, left),
     }
 }
 
 // A turn for each tree; then what the turns gave.
 fn each(
     s: &[u8],
-    l: Layout,
     rows: &mut [u8],
     scope: Scope,
     used: usize,
@@ -350,7 +339,7 @@ fn each(
     depth: usize,
     purse: Purse,
 ) -> Answer
-    requires { ⌜ Asks (now s) l (now rows) scope used over (purse .left) (fits-body (now s) depth scope body) ⌝ }
+    requires { ⌜ Asks (now s) (now rows) scope used over (purse .left) (fits-body (now s) depth scope body) ⌝ }
     ensures { λ r. ⌜ Meets (each (body-asked (now (s .entry)) (now (rows .entry)) scope depth body) (forestAt (pool (now (s .entry))) (lentRow (now (rows .entry))) over)) (pool (now (s .entry))) (purse .left) used (now (rows .entry)) (now (rows .exit)) r ⌝ }
 {
     let mut at = over;
@@ -359,7 +348,7 @@ fn each(
     let mut rest = purse;
     while at != 0 {
         let next = rows::row(rows, at).r;
-        match turn(s, l, rows, scope, n, body, at, link, depth, rest) {
+        match turn(s, rows, scope, n, body, at, link, depth, rest) {
             Answer::Not(why) => return Answer::Not(why),
             Answer::Done {
                 root,
@@ -384,7 +373,6 @@ fn each(
 // The body with one tree, alone, as a tree variable; its result as a link in front of the links before.
 fn turn(
     s: &[u8],
-    l: Layout,
     rows: &mut [u8],
     scope: Scope,
     used: usize,
@@ -394,7 +382,7 @@ fn turn(
     depth: usize,
     purse: Purse,
 ) -> Answer
-    requires { ⌜ (Asks (now s) l (now rows) scope used at (purse .left) (fits-body (now s) depth scope body)) × (0 < at) × (link ≤ used) × (Links (forestAt (pool (now s)) (lentRow (now rows)) link)) ⌝ }
+    requires { ⌜ (Asks (now s) (now rows) scope used at (purse .left) (fits-body (now s) depth scope body)) × (0 < at) × (link ≤ used) × (Links (forestAt (pool (now s)) (lentRow (now rows)) link)) ⌝ }
     ensures { λ r. ⌜ Turns (turnOf (body-asked (now (s .entry)) (now (rows .entry)) scope depth body) (alone (forestAt (pool (now (s .entry))) (lentRow (now (rows .entry))) at)) (forestAt (pool (now (s .entry))) (lentRow (now (rows .entry))) link)) (pool (now (s .entry))) (purse .left) used (used + purse .left + count (gathered (forestAt (pool (now (s .entry))) (lentRow (now (rows .entry))) link))) (now (rows .entry)) (now (rows .exit)) r ⌝ }
 {
     match purse.take() {
@@ -402,7 +390,7 @@ fn turn(
         Taken::Left(rest) => {
             let t = rows::row(rows, at);
             let one = rows::push(rows, used, t.kind as usize, t.p, t.q, 0);
-            match query(s, l, rows, scope.with(2, one), one, body, depth, rest) {
+            match query(s, rows, scope.with(2, one), one, body, depth, rest) {
                 Answer::Not(why) => Answer::Not(why),
                 Answer::Done {
                     root,

@@ -8,7 +8,7 @@ use native.Mathlib.Nat.{eq-zero-or-pos, lt-irrefl, add-zero, add-suc}
 use native.Mathlib.Omega.{arith}
 use lib.ListN.{getD}
 use lib.Bits.{bitAnd}
-use lib.Count.{trailingZeros, ones}
+use lib.Count.{trailingZeros, ones, onesIn}
 use lib.Dec.{eqb}
 use Rattle.bits.specs.Digits.{bit, bit-lt, bit-none, bit-from, bit-past, test-and, trail-below, trail-at, trail-found, digitSum, ones-sum}
 use Rattle.bits.specs.Sets.{inBoth, LowestBoth}
@@ -112,3 +112,8 @@ module _ (t : List ℕ) (k : ℕ) (u : List ℕ) (j : ℕ) where
   count-word w x e l =
       let s : 64 * (w + 1) ≡ 64 * w + 64 = omega arith in
       rw s (count-digits w 64 (omega arith) ∙ ap (λ (i : ℕ). countTo (inBoth t k u j) (64 * w) + i) (ap (λ (i : ℕ). digitSum i 64) (sym e) ∙ sym (ones-sum 64 x l)))
+
+  -- a word without a digit counts for none
+  pub count-zero : (w x : ℕ) → x ≡ common t k u j w → x ≡ 0 → countTo (inBoth t k u j) (64 * (w + 1)) ≡ countTo (inBoth t k u j) (64 * w)
+  unfolding ones onesIn
+  count-zero w x e z = let r = count-word w x e (rw z (omega arith)) in let o : ones x ≡ 0 = rw z in omega arith

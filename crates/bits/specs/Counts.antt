@@ -34,6 +34,15 @@ module _ (f : ℕ → Bool) where
     | inr q ↦ (let r = some-counted n x q e in omega arith)
   ]
 
+  -- up to a greater number no fewer are counted
+  pub count-more : (n : ℕ) {m : ℕ} → m ≤ n → countTo f m ≤ countTo f n
+  unfolding countTo
+  count-more zero {m} h = let e : m ≡ 0 = omega arith in rw e (omega arith)
+  count-more (suc n) {m} h = elim (eq-or-lt-of-le h) [
+    | inl q ↦ rw q (omega arith)
+    | inr q ↦ (let r = count-more n {m = m} (le-of-suc-le-suc q) in omega arith)
+  ]
+
   -- below 2, two that pass are one
   pub count-single : (n : ℕ) → countTo f n < 2 → (x y : ℕ) → x < n → y < n → f x ≡ true → f y ≡ true → x ≡ y
   unfolding countTo

@@ -1,6 +1,7 @@
 // Sets of places as the bits of u64 words. A table of 513 sets lies in one array: set `k` is the nine words from word 9 k on, room for places 0 (End) to 575.
 ghost use mathlib.Core.Path.{_≡_};
 ghost use Prim.Native.Nat.{_+_, _*_, _/_, _%_, _^_, _<_, _≤_};
+ghost use lib.Dec.{leb};
 ghost use lib.ListN.{getD, length};
 ghost use lib.Bits.{bitAnd};
 ghost use lib.Count.{trailingZeros, ones};
@@ -113,17 +114,22 @@ pub fn lowest_both(t: &[u64; 4617], k: usize, u: &[u64; 4617], j: usize, from: u
     lowest_word(t, k, u, j, w + 1)
 }
 
-// How many places are in both.
-pub fn count_both(t: &[u64; 4617], k: usize, u: &[u64; 4617], j: usize) -> usize
+// Whether two places or more are in both.
+pub fn several_both(t: &[u64; 4617], k: usize, u: &[u64; 4617], j: usize) -> bool
     requires { ⌜ (k ≤ 512) × (j ≤ 512) ⌝ }
-    ensures is { λ r. ⌜ r ≡ countTo (inBoth (now (t .entry)) k (now (u .entry)) j) 576 ⌝ }
-    ensures small { λ r. ⌜ r ≤ 576 ⌝ }
+    ensures { λ r. ⌜ r ≡ leb 2 (countTo (inBoth (now (t .entry)) k (now (u .entry)) j) 576) ⌝ }
 {
     let mut n = 0;
     let mut w = 0;
     while w < 9 {
-        n += ones_of(both(t, k, u, j, w));
+        let common = both(t, k, u, j, w);
         w += 1;
+        if common != 0 {
+            n += ones_of(common);
+            if 1 < n {
+                return true;
+            }
+        }
     }
-    n
+    false
 }

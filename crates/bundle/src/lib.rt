@@ -19,8 +19,7 @@ fn need_in(p: &[u8], size: usize) -> usize
     ensures { λ r. ⌜ r ≡ need (take size (now (p .entry))) ⌝ }
     ensures { λ r. ⌜ r < 4194304 ⌝ }
 {
-    let front = &p[..size];
-    sheet::need_of(front, sheet::lay_out(front))
+    sheet::need_of(&p[..size])
 }
 
 pub enum Opened {
@@ -85,7 +84,7 @@ pub fn write(s: &[u8], out: &mut [u8]) -> Copied
     if !shape::shapely(s) {
         return Copied::Shape;
     }
-    let need = sheet::need_of(s, sheet::lay_out(s));
+    let need = sheet::need_of(s);
     let m = (need + 507) / 508;
     if out.len() < 512 * m {
         return Copied::Room;

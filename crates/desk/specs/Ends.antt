@@ -26,7 +26,9 @@ use Rattle.walk.specs.declared.Stop.{Stop}
 use Rattle.walk.specs.declared.Stop.the-variants.{Fuel, Depth, Stuck}
 use Rattle.walk.specs.declared.Answer as walk
 use Rattle.walk.specs.declared.Answer.the-variants.{Done, Not}
-use Rattle.ask.specs.Ask.{lay-of, held}
+use Rattle.rows.specs.Rows.{Readable}
+use Rattle.ask.specs.Ask.{held}
+use Rattle.sheet.specs.Whole.{whole-shaped}
 use Rattle.edit.specs.Edit.{Edits, fits, went}
 use Rattle.room.specs.Hands.{HandsBy}
 use Rattle.room.specs.declared.Handed.the-variants as room
@@ -38,26 +40,24 @@ use Rattle.meaning.specs.Laws.Scoped.{main-in-scope}
 use Rattle.desk.specs.declared.Ran.the-variants as ran
 
 -- main gave the forest at row root of the rows `new`
-pub record MainDone (s new : List ℕ) (root used left : ℕ) : Type 0 where
+pub record MainDone (s new : List ℕ) (root left : ℕ) : Type 0 where
   pub settles : Settles Unasked (run-walk (sheetOf s)) (sheetOf s .runFuel) (gives (forestAt (groveOf s .byte) (lentRow new) root)) left
-  pub inside : root ≤ used
-  pub few : used ≤ 6144
-  pub low : LowRows (lentRow new) used
+  pub readable : Readable new root
 
 abbrev pub MainEndsBy : List ℕ → List ℕ → walk.Answer → Type 0
-MainEndsBy s new (Done root used p) = MainDone s new root used (p .left)
+MainEndsBy s new (Done root used p) = MainDone s new root (p .left)
 MainEndsBy s new (Not why) = Stopped (run-walk (sheetOf s)) (sheetOf s .runFuel) why
 
 pub record MainEnds (s new : List ℕ) (a : walk.Answer) : Type 0 where
   pub by : MainEndsBy s new a
 
-pub ends-done : {s new : List ℕ} {a : walk.Answer} {root used : ℕ} {p : Purse} → a ≡ Done root used p → MainEnds s new a → MainDone s new root used (p .left)
+pub ends-done : {s new : List ℕ} {a : walk.Answer} {root used : ℕ} {p : Purse} → a ≡ Done root used p → MainEnds s new a → MainDone s new root (p .left)
 ends-done {s} {new} e m = subst (MainEndsBy s new) e (m .by)
 
 pub ends-not : {s new : List ℕ} {a : walk.Answer} {why : Stop} → a ≡ Not why → MainEnds s new a → Stopped (run-walk (sheetOf s)) (sheetOf s .runFuel) why
 ends-not {s} {new} e m = subst (MainEndsBy s new) e (m .by)
 
-pub done-left : {s new : List ℕ} {root used left : ℕ} → MainDone s new root used left → left ≤ sheetOf s .runFuel
+pub done-left : {s new : List ℕ} {root left : ℕ} → MainDone s new root left → left ≤ sheetOf s .runFuel
 done-left m = within-purse Unasked (m .settles)
 
 -- ---- where main begins
@@ -109,9 +109,9 @@ module _ {s : List ℕ} {l : Layout} (e : shapely s ≡ true) (L : Laid s l) whe
     }
 
     -- main has no variables, and its rows find theirs
-    pub edits-main : 8 * (l .rows + l .«run_fuel») ≤ length old → Edits s l old g (l .rows) (l .root) (l .«run_fuel») (fits s 200 g (l .main))
+    pub edits-main : 8 * (l .rows + l .«run_fuel») ≤ length old → Edits s old g (l .rows) (l .root) (l .«run_fuel») (fits s 200 g (l .main))
     unfolding held
-    edits-main room = record { shaped = e; asks = record { laid = lay-of s l L; ready = ready room; scope = rw (fresh .none, main-is) (main-in-scope s e 200) } }
+    edits-main room = record { shaped = e; asks = record { whole = whole-shaped s e; ready = ready room; scope = rw (fresh .none, main-is) (main-in-scope s e 200) } }
 
     -- the walk that the evaluator goes is main's on the sheet's forest
     main-walk : went s old g 200 (l .main) (l .root) ≡ run-walk (sheetOf s)
@@ -124,11 +124,13 @@ module _ {s : List ℕ} {l : Layout} (e : shapely s ≡ true) (L : Laid s l) whe
 
     pub main-ends : {new : List ℕ} {a : walk.Answer}
         → Ran (went s old g 200 (l .main) (l .root)) (groveOf s .byte) (l .«run_fuel») (l .rows) old new a
-        → MainEnds s new a
-    main-ends {new} {a} r = record { by = go a (rw (main-walk, fuel-is) at (r .met .by)) }
+        → 8 * (l .rows + l .«run_fuel») ≤ length new → MainEnds s new a
+    main-ends {new} {a} r room = record { by = go a (rw (main-walk, fuel-is) at (r .met .by)) }
       where
         go : (a : walk.Answer) → MeetsBy (run-walk (sheetOf s)) (groveOf s .byte) (sheetOf s .runFuel) (l .rows) old new a → MainEndsBy s new a
-        go (Done root used p) f = record { settles = f .settles; inside = f .inside; few = omega (arith, f .paid, asked-rows, few-rows s e, few-units s e, rows-is); low = f .low }
+        go (Done root used p) f =
+            let inside : root ≤ l .rows + l .«run_fuel» = omega (arith, f .inside, f .paid, asked-rows, rows-is) in
+            record { settles = f .settles; readable = record { low = λ i j k. f .low i j (omega (arith, f .inside)); small = omega (arith, few-asked); there = omega arith } }
         go (Not why) f = f
 
 -- ---- what is said of its end
@@ -167,8 +169,8 @@ pub record Gave (s lent new : List ℕ) (root units : ℕ) : Type 0 where
   pub verdict : run-settled s .verdict ≡ gives (forestAt (groveOf s .byte) (lentRow new) root)
   pub charge : units + run-settled s .left ≡ sheetOf s .runFuel
 
-pub gave-of : {s lent new : List ℕ} {root used left units n : ℕ} → Begun s lent → MainDone s new root used left → n ≡ sheetOf s .runFuel → units + left ≡ n → Gave s lent new root units
-gave-of {s} {lent} {new} {root} {used} {left} b m en eu =
+pub gave-of : {s lent new : List ℕ} {root left units n : ℕ} → Begun s lent → MainDone s new root left → n ≡ sheetOf s .runFuel → units + left ≡ n → Gave s lent new root units
+gave-of {s} {lent} {new} {root} {left} b m en eu =
     let v = settles-settle (run-walk (sheetOf s)) (sheetOf s .runFuel) left (gives (forestAt (groveOf s .byte) (lentRow new) root)) (m .settles) in
     record { begun = b; verdict = v .0; charge = omega (arith, v .1) }
 

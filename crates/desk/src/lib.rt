@@ -17,10 +17,9 @@ ghost use Rattle.meaning.specs.Sheet.{sheetOf};
 ghost use Rattle.meaning.specs.Shape.{shapely};
 ghost use Rattle.meaning.specs.Run.{run-walk};
 ghost use Rattle.meaning.specs.Reply.{Loads, done, RunReply};
-ghost use Rattle.meaning.specs.Laws.Rows.{LowRows};
-ghost use Rattle.meaning.specs.Theorems.ReadBack.{lentRow};
 ghost use Rattle.sheet.specs.Laid.{Laid};
 ghost use Rattle.walk.specs.Meets.{Stopped};
+ghost use Rattle.rows.specs.Rows.{Readable};
 ghost use Rattle.desk.specs.Said.{ranReply, Says};
 ghost use Rattle.desk.specs.Load.{Loaded};
 ghost use Rattle.desk.specs.Ends.{MainEnds, leftOf, Begun, Gave};
@@ -33,7 +32,7 @@ pub enum Ran {
     Tie(Tied),
     Fuel(usize),
     Depth(usize),
-    Stuck { row: usize, flag: u8, units: usize },
+    Stuck { row: usize, flag: usize, units: usize },
     Scratch,
     Room(usize),
 }
@@ -55,7 +54,7 @@ fn walk_main(s: &[u8], l: Layout, work: &mut [u8]) -> Answer
 {
     load(s, l, work);
     let purse = Purse { left: l.run_fuel };
-    edit::statement(s, l, work, Scope::new(), l.rows, l.main, l.root, 200, purse)
+    edit::statement(s, work, Scope::new(), l.rows, l.main, l.root, 200, purse)
 }
 
 // How an end that is no forest is called.
@@ -75,11 +74,11 @@ fn stopped(why: Stop, fuel: usize) -> Ran
 }
 
 // The forest at `root`, handed out: Room where the result rows are too few.
-fn finish(work: &[u8], used: usize, root: usize, units: usize, result: &mut [u8]) -> Ran
-    requires { ⌜ (root ≤ used) × (used ≤ 6144) × (LowRows (lentRow (now work)) used) ⌝ }
+fn finish(work: &[u8], root: usize, units: usize, result: &mut [u8]) -> Ran
+    requires { ⌜ Readable (now work) root ⌝ }
     ensures { λ r. ⌜ ((s lent : List ℕ) → Gave s lent (now (work .entry)) root units → Says s lent (now (result .entry)) r (now (result .exit))) ⌝ }
 {
-    match room::hand_out(work, used, root, result) {
+    match room::hand_out(work, root, result) {
         Handed::Room => Ran::Room(units),
         Handed::Rows(n) => Ran::Done { units, root: n },
     }
@@ -95,9 +94,9 @@ fn walked(s: &[u8], l: Layout, work: &mut [u8], result: &mut [u8]) -> Ran
     }
     match walk_main(s, l, work) {
         Answer::Not(why) => stopped(why, l.run_fuel),
-        Answer::Done { root, used, purse } => {
+        Answer::Done { root, purse, .. } => {
             let units = purse.spent(l.run_fuel);
-            finish(work, used, root, units, result)
+            finish(work, root, units, result)
         }
     }
 }

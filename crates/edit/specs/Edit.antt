@@ -16,7 +16,6 @@ use Rattle.meaning.specs.Laws.Bools.{and-left, and-right}
 use Rattle.meaning.specs.Laws.Scoped.{statement-parts, call-in-scope}
 use Rattle.meaning.specs.Theorems.ReadBack.{lentRow}
 use Rattle.sheet.specs.Laid.{cellsOf}
-use Rattle.sheet.specs.declared.Layout.{Layout}
 use Rattle.sheet.specs.declared.Row.{Row}
 use Rattle.walk.specs.Scope.{Fresh, More, envOf, scoped-fresh}
 use Rattle.walk.specs.Meets.{Finished, Stopped, Meets, Ran, ready-scope, ran-tick, stop-tick, stop-depth}
@@ -58,34 +57,34 @@ body-went s rows e d at = λ t. statement (scriptOf s) (pool s) d (envOf (pool s
 -- ---- what an evaluator asks
 
 -- what a query asks, of a sheet that passes Shape
-pub record Edits (s : List ℕ) (l : Layout) (rows : List ℕ) (e : Scope) (used focus left : ℕ) (fit : Bool) : Type 0 where
+pub record Edits (s : List ℕ) (rows : List ℕ) (e : Scope) (used focus left : ℕ) (fit : Bool) : Type 0 where
   pub shaped : shapely s ≡ true
-  pub asks : Asks s l rows e used focus left fit
+  pub asks : Asks s rows e used focus left fit
 
-module _ {s : List ℕ} {l : Layout} {rows : List ℕ} {e : Scope} {used focus left : ℕ} {fit : Bool} (h : Edits s l rows e used focus left fit) where
+module _ {s : List ℕ} {rows : List ℕ} {e : Scope} {used focus left : ℕ} {fit : Bool} (h : Edits s rows e used focus left fit) where
   -- a part, at once, on a focus that is in use
-  pub edits-part : {fit' : Bool} (focus' : ℕ) → focus' ≤ used → fit' ≡ true → Edits s l rows e used focus' left fit'
+  pub edits-part : {fit' : Bool} (focus' : ℕ) → focus' ≤ used → fit' ≡ true → Edits s rows e used focus' left fit'
   edits-part focus' i g = record { shaped = h .shaped; asks = asks-less (h .asks) left 0 focus' (omega arith) i g }
 
   -- a query
-  pub edits-query : {fit' : Bool} → fit' ≡ true → Asks s l rows e used 0 left fit'
+  pub edits-query : {fit' : Bool} → fit' ≡ true → Asks s rows e used 0 left fit'
   edits-query g = edits-part 0 (omega arith) g .asks
 
   -- with a unit paid
-  pub edits-less : {fit' : Bool} (left' : ℕ) → left' + 1 ≡ left → fit' ≡ true → Edits s l rows e used focus left' fit'
+  pub edits-less : {fit' : Bool} (left' : ℕ) → left' + 1 ≡ left → fit' ≡ true → Edits s rows e used focus left' fit'
   edits-less left' p g = record { shaped = h .shaped; asks = asks-less (h .asks) left' 1 focus p (h .asks .ready .focus) g }
 
   -- from where a part left off
-  pub edits-after : {w : Quiet Forest} {byte : ℕ → ℕ} {t : List ℕ} {fit' : Bool} {root used' left' : ℕ} (focus' : ℕ) → length t ≡ length rows → Finished w byte left used rows t root used' left' → focus' ≤ used' → fit' ≡ true → Edits s l t e used' focus' left' fit'
+  pub edits-after : {w : Quiet Forest} {byte : ℕ → ℕ} {t : List ℕ} {fit' : Bool} {root used' left' : ℕ} (focus' : ℕ) → length t ≡ length rows → Finished w byte left used rows t root used' left' → focus' ≤ used' → fit' ≡ true → Edits s t e used' focus' left' fit'
   edits-after focus' n f i g = record { shaped = h .shaped; asks = asks-after (h .asks) focus' n f i g }
 
   -- with a place more
-  pub edits-with : {e' : Scope} {fit' : Bool} {k v : ℕ} → More e e' k v → e .count < 16 → v ≤ used → fit' ≡ true → Edits s l rows e' used focus left fit'
+  pub edits-with : {e' : Scope} {fit' : Bool} {k v : ℕ} → More e e' k v → e .count < 16 → v ≤ used → fit' ≡ true → Edits s rows e' used focus left fit'
   edits-with m i j g = record { shaped = h .shaped; asks = asks-with (h .asks) m i j g }
 
   -- with no place
-  pub edits-fresh : {e' : Scope} {fit' : Bool} → Fresh e' → fit' ≡ true → Edits s l rows e' used focus left fit'
-  edits-fresh {e'} fresh g = record { shaped = h .shaped; asks = record { laid = h .asks .laid; ready = ready-scope e' (h .asks .ready) (scoped-fresh used fresh); scope = g } }
+  pub edits-fresh : {e' : Scope} {fit' : Bool} → Fresh e' → fit' ≡ true → Edits s rows e' used focus left fit'
+  edits-fresh {e'} fresh g = record { shaped = h .shaped; asks = record { whole = h .asks .whole; ready = ready-scope e' (h .asks .ready) (scoped-fresh used fresh); scope = g } }
 
 -- ---- Shape's test, taken apart
 

@@ -4,7 +4,6 @@ use rows::Seen;
 use rows::front;
 use rows::keep;
 use rows::make;
-use sheet::Layout;
 use walk::Answer;
 use walk::Purse;
 use walk::Scope;
@@ -27,7 +26,6 @@ ghost use Rattle.edit.specs.Edit.{Edits, fits, fits-row, fits-called, on
 // Insert on an empty focus, else Stuck.
 fn insert(
     s: &[u8],
-    l: Layout,
     rows: &mut [u8],
     scope: Scope,
     used: usize,
@@ -37,13 +35,13 @@ fn insert(
     depth: usize,
     purse: Purse,
 ) -> Answer
-    requires { ⌜ Edits (now s) l (now rows) scope used focus (purse .left) (fits-row (now s) depth scope (Statement.insert p)) ⌝ }
+    requires { ⌜ Edits (now s) (now rows) scope used focus (purse .left) (fits-row (now s) depth scope (Statement.insert p)) ⌝ }
     ensures { λ a. ⌜ Meets (row-went (now (s .entry)) (now (rows .entry)) scope depth at (Statement.insert p) focus) (pool (now (s .entry))) (purse .left) used (now (rows .entry)) (now (rows .exit)) a ⌝ }
 {
     if focus != 0 {
         return Answer::Not(Stop::Stuck(at, 2, purse));
     }
-    query(s, l, rows, scope, used, p, depth, purse)
+    query(s, rows, scope, used, p, depth, purse)
 }
 
 // Another label for one labelled tree, else Stuck.
@@ -114,7 +112,6 @@ fn judge(rows: &[u8], p: usize, q: usize, focus: usize) -> Fate
 // Statement row `at` on the forest at `focus`.
 pub fn statement(
     s: &[u8],
-    l: Layout,
     rows: &mut [u8],
     scope: Scope,
     used: usize,
@@ -123,7 +120,7 @@ pub fn statement(
     depth: usize,
     purse: Purse,
 ) -> Answer
-    requires { ⌜ Edits (now s) l (now rows) scope used focus (purse .left) (fits (now s) depth scope at) ⌝ }
+    requires { ⌜ Edits (now s) (now rows) scope used focus (purse .left) (fits (now s) depth scope at) ⌝ }
     ensures { λ a. ⌜ Ran (went (now (s .entry)) (now (rows .entry)) scope depth at focus) (pool (now (s .entry))) (purse .left) used (now (rows .entry)) (now (rows .exit)) a ⌝ }
 {
     if depth == 0 {
@@ -132,7 +129,7 @@ pub fn statement(
     match purse.take() {
         Taken::Fuel => Answer::Not(Stop::Fuel),
         Taken::Left(rest) => {
-            let c = sheet::statement_row(s, l, at);
+            let c = sheet::statement_at(s, at);
             let below = depth - 1;
             let kind = c.kind;
             match kind {
@@ -141,23 +138,23 @@ pub fn statement(
                     used,
                     purse: rest,
                 },
-                2 => pair(s, l, rows, scope, used, c.p, c.q, focus, below, rest),
-                3 => choose(s, l, rows, scope, used, at, c.p, c.q, c.r, focus, below, rest),
-                4 => insert(s, l, rows, scope, used, at, c.p, focus, below, rest),
+                2 => pair(s, rows, scope, used, c.p, c.q, focus, below, rest),
+                3 => choose(s, rows, scope, used, at, c.p, c.q, c.r, focus, below, rest),
+                4 => insert(s, rows, scope, used, at, c.p, focus, below, rest),
                 5 => Answer::Done {
                     root: 0,
                     used,
                     purse: rest,
                 },
                 6 => rename(rows, used, at, c.p, focus, rest),
-                7 => let_in(s, l, rows, scope, used, c.p, c.q, focus, below, rest),
-                8 => snapshot(s, l, rows, scope, used, c.p, focus, below, rest),
-                9 => test(s, l, rows, scope, used, at, c.p, c.q, c.r, focus, below, rest),
-                10 => children(s, l, rows, scope, used, at, c.p, focus, below, rest),
-                11 => left(s, l, rows, scope, used, c.p, focus, below, rest),
-                12 => right(s, l, rows, scope, used, c.p, focus, below, rest),
-                13 => iter(s, l, rows, scope, used, c.p, focus, below, rest),
-                14 => call(s, l, rows, scope, used, c.p, c.q, c.r, focus, below, rest),
+                7 => let_in(s, rows, scope, used, c.p, c.q, focus, below, rest),
+                8 => snapshot(s, rows, scope, used, c.p, focus, below, rest),
+                9 => test(s, rows, scope, used, at, c.p, c.q, c.r, focus, below, rest),
+                10 => children(s, rows, scope, used, at, c.p, focus, below, rest),
+                11 => left(s, rows, scope, used, c.p, focus, below, rest),
+                12 => right(s, rows, scope, used, c.p, focus, below, rest),
+                13 => iter(s, rows, scope, used, c.p, focus, below, rest),
+                14 => call(s, rows, scope, used, c.p, c.q, c.r, focus, below, rest),
                 0 | 15..=65535 => Answer::Not(Stop::Stuck(at, 2, rest)),
             }
         }
@@ -167,7 +164,6 @@ pub fn statement(
 // One statement, then another on what it gave.
 fn pair(
     s: &[u8],
-    l: Layout,
     rows: &mut [u8],
     scope: Scope,
     used: usize,
@@ -177,23 +173,22 @@ fn pair(
     depth: usize,
     purse: Purse,
 ) -> Answer
-    requires { ⌜ Edits (now s) l (now rows) scope used focus (purse .left) (fits-row (now s) depth scope (Statement.then p q)) ⌝ }
+    requires { ⌜ Edits (now s) (now rows) scope used focus (purse .left) (fits-row (now s) depth scope (Statement.then p q)) ⌝ }
     ensures { λ a. ⌜ Meets (row-went (now (s .entry)) (now (rows .entry)) scope depth 0 (Statement.then p q) focus) (pool (now (s .entry))) (purse .left) used (now (rows .entry)) (now (rows .exit)) a ⌝ }
 {
-    match statement(s, l, rows, scope, used, p, focus, depth, purse) {
+    match statement(s, rows, scope, used, p, focus, depth, purse) {
         Answer::Not(why) => Answer::Not(why),
         Answer::Done {
             root,
             used: n,
             purse: rest,
-        } => statement(s, l, rows, scope, n, q, root, depth, rest),
+        } => statement(s, rows, scope, n, q, root, depth, rest),
     }
 }
 
 // A condition is one bool, else Stuck at the if.
 fn choose(
     s: &[u8],
-    l: Layout,
     rows: &mut [u8],
     scope: Scope,
     used: usize,
@@ -205,10 +200,10 @@ fn choose(
     depth: usize,
     purse: Purse,
 ) -> Answer
-    requires { ⌜ Edits (now s) l (now rows) scope used focus (purse .left) (fits-row (now s) depth scope (Statement.if p q r)) ⌝ }
+    requires { ⌜ Edits (now s) (now rows) scope used focus (purse .left) (fits-row (now s) depth scope (Statement.if p q r)) ⌝ }
     ensures { λ a. ⌜ Meets (row-went (now (s .entry)) (now (rows .entry)) scope depth at (Statement.if p q r) focus) (pool (now (s .entry))) (purse .left) used (now (rows .entry)) (now (rows .exit)) a ⌝ }
 {
-    match query(s, l, rows, scope, used, p, depth, purse) {
+    match query(s, rows, scope, used, p, depth, purse) {
         Answer::Not(why) => Answer::Not(why),
         Answer::Done {
             root,
@@ -217,9 +212,9 @@ fn choose(
         } => match rows::look(rows, root) {
             Seen::Bool(b) => {
                 if b {
-                    statement(s, l, rows, scope, n, q, focus, depth, rest)
+                    statement(s, rows, scope, n, q, focus, depth, rest)
                 } else {
-                    statement(s, l, rows, scope, n, r, focus, depth, rest)
+                    statement(s, rows, scope, n, r, focus, depth, rest)
                 }
             }
             Seen::Nothing => Answer::Not(Stop::Stuck(at, 2, rest)),
@@ -233,7 +228,6 @@ fn choose(
 // A statement with a forest variable more.
 fn let_in(
     s: &[u8],
-    l: Layout,
     rows: &mut [u8],
     scope: Scope,
     used: usize,
@@ -243,23 +237,22 @@ fn let_in(
     depth: usize,
     purse: Purse,
 ) -> Answer
-    requires { ⌜ Edits (now s) l (now rows) scope used focus (purse .left) (fits-row (now s) depth scope (Statement.letin p q)) ⌝ }
+    requires { ⌜ Edits (now s) (now rows) scope used focus (purse .left) (fits-row (now s) depth scope (Statement.letin p q)) ⌝ }
     ensures { λ a. ⌜ Meets (row-went (now (s .entry)) (now (rows .entry)) scope depth 0 (Statement.letin p q) focus) (pool (now (s .entry))) (purse .left) used (now (rows .entry)) (now (rows .exit)) a ⌝ }
 {
-    match query(s, l, rows, scope, used, p, depth, purse) {
+    match query(s, rows, scope, used, p, depth, purse) {
         Answer::Not(why) => Answer::Not(why),
         Answer::Done {
             root,
             used: n,
             purse: rest,
-        } => statement(s, l, rows, scope.with(1, root), n, q, focus, depth, rest),
+        } => statement(s, rows, scope.with(1, root), n, q, focus, depth, rest),
     }
 }
 
 // A statement with the focus as a forest variable.
 fn snapshot(
     s: &[u8],
-    l: Layout,
     rows: &mut [u8],
     scope: Scope,
     used: usize,
@@ -268,16 +261,15 @@ fn snapshot(
     depth: usize,
     purse: Purse,
 ) -> Answer
-    requires { ⌜ Edits (now s) l (now rows) scope used focus (purse .left) (fits-row (now s) depth scope (Statement.snapshot p)) ⌝ }
+    requires { ⌜ Edits (now s) (now rows) scope used focus (purse .left) (fits-row (now s) depth scope (Statement.snapshot p)) ⌝ }
     ensures { λ a. ⌜ Meets (row-went (now (s .entry)) (now (rows .entry)) scope depth 0 (Statement.snapshot p) focus) (pool (now (s .entry))) (purse .left) used (now (rows .entry)) (now (rows .exit)) a ⌝ }
 {
-    statement(s, l, rows, scope.with(1, focus), used, p, focus, depth, purse)
+    statement(s, rows, scope.with(1, focus), used, p, focus, depth, purse)
 }
 
 // A statement on a tree that matches; another stays as it is.
 fn test(
     s: &[u8],
-    l: Layout,
     rows: &mut [u8],
     scope: Scope,
     used: usize,
@@ -289,12 +281,12 @@ fn test(
     depth: usize,
     purse: Purse,
 ) -> Answer
-    requires { ⌜ Edits (now s) l (now rows) scope used tree (purse .left) (fits-row (now s) depth scope (Statement.test (testForm p q) r)) ⌝ }
+    requires { ⌜ Edits (now s) (now rows) scope used tree (purse .left) (fits-row (now s) depth scope (Statement.test (testForm p q) r)) ⌝ }
     ensures { λ a. ⌜ Meets (row-went (now (s .entry)) (now (rows .entry)) scope depth at (Statement.test (testForm p q) r) tree) (pool (now (s .entry))) (purse .left) used (now (rows .entry)) (now (rows .exit)) a ⌝ }
 {
     match judge(rows, p, q, tree) {
         Fate::Misfit => Answer::Not(Stop::Stuck(at, 2, purse)),
-        Fate::Matched => statement(s, l, rows, scope, used, r, tree, depth, purse),
+        Fate::Matched => statement(s, rows, scope, used, r, tree, depth, purse),
         Fate::Passed => Answer::Done {
             root: tree,
             used,
@@ -306,7 +298,6 @@ fn test(
 // A statement on the children of one labelled tree, else Stuck.
 fn children(
     s: &[u8],
-    l: Layout,
     rows: &mut [u8],
     scope: Scope,
     used: usize,
@@ -316,11 +307,11 @@ fn children(
     depth: usize,
     purse: Purse,
 ) -> Answer
-    requires { ⌜ Edits (now s) l (now rows) scope used focus (purse .left) (fits-row (now s) depth scope (Statement.children p)) ⌝ }
+    requires { ⌜ Edits (now s) (now rows) scope used focus (purse .left) (fits-row (now s) depth scope (Statement.children p)) ⌝ }
     ensures { λ a. ⌜ Meets (row-went (now (s .entry)) (now (rows .entry)) scope depth at (Statement.children p) focus) (pool (now (s .entry))) (purse .left) used (now (rows .entry)) (now (rows .exit)) a ⌝ }
 {
     match rows::look(rows, focus) {
-        Seen::Node(label, c) => match statement(s, l, rows, scope, used, p, c, depth, purse) {
+        Seen::Node(label, c) => match statement(s, rows, scope, used, p, c, depth, purse) {
             Answer::Not(why) => Answer::Not(why),
             Answer::Done {
                 root,
@@ -338,7 +329,6 @@ fn children(
 // What the statement gives on (), set before the focus.
 fn left(
     s: &[u8],
-    l: Layout,
     rows: &mut [u8],
     scope: Scope,
     used: usize,
@@ -347,10 +337,10 @@ fn left(
     depth: usize,
     purse: Purse,
 ) -> Answer
-    requires { ⌜ Edits (now s) l (now rows) scope used focus (purse .left) (fits-row (now s) depth scope (Statement.left p)) ⌝ }
+    requires { ⌜ Edits (now s) (now rows) scope used focus (purse .left) (fits-row (now s) depth scope (Statement.left p)) ⌝ }
     ensures { λ a. ⌜ Meets (row-went (now (s .entry)) (now (rows .entry)) scope depth 0 (Statement.left p) focus) (pool (now (s .entry))) (purse .left) used (now (rows .entry)) (now (rows .exit)) a ⌝ }
 {
-    match statement(s, l, rows, scope, used, p, 0, depth, purse) {
+    match statement(s, rows, scope, used, p, 0, depth, purse) {
         Answer::Not(why) => Answer::Not(why),
         Answer::Done {
             root,
@@ -363,7 +353,6 @@ fn left(
 // And behind it.
 fn right(
     s: &[u8],
-    l: Layout,
     rows: &mut [u8],
     scope: Scope,
     used: usize,
@@ -372,10 +361,10 @@ fn right(
     depth: usize,
     purse: Purse,
 ) -> Answer
-    requires { ⌜ Edits (now s) l (now rows) scope used focus (purse .left) (fits-row (now s) depth scope (Statement.right p)) ⌝ }
+    requires { ⌜ Edits (now s) (now rows) scope used focus (purse .left) (fits-row (now s) depth scope (Statement.right p)) ⌝ }
     ensures { λ a. ⌜ Meets (row-went (now (s .entry)) (now (rows .entry)) scope depth 0 (Statement.right p) focus) (pool (now (s .entry))) (purse .left) used (now (rows .entry)) (now (rows .exit)) a ⌝ }
 {
-    match statement(s, l, rows, scope, used, p, 0, depth, purse) {
+    match statement(s, rows, scope, used, p, 0, depth, purse) {
         Answer::Not(why) => Answer::Not(why),
         Answer::Done {
             root,
@@ -388,7 +377,6 @@ fn right(
 // A turn for each tree of the focus as it was; then what the turns gave.
 fn iter(
     s: &[u8],
-    l: Layout,
     rows: &mut [u8],
     scope: Scope,
     used: usize,
@@ -397,7 +385,7 @@ fn iter(
     depth: usize,
     purse: Purse,
 ) -> Answer
-    requires { ⌜ Edits (now s) l (now rows) scope used focus (purse .left) (fits (now s) depth scope body) ⌝ }
+    requires { ⌜ Edits (now s) (now rows) scope used focus (purse .left) (fits (now s) depth scope body) ⌝ }
     ensures { λ a. ⌜ Meets (each (body-went (now (s .entry)) (now (rows .entry)) scope depth body) (on (now (s .entry)) (now (rows .entry)) focus)) (pool (now (s .entry))) (purse .left) used (now (rows .entry)) (now (rows .exit)) a ⌝ }
 {
     let mut at = focus;
@@ -406,7 +394,7 @@ fn iter(
     let mut rest = purse;
     while at != 0 {
         let next = rows::row(rows, at).r;
-        match turn(s, l, rows, scope, n, body, at, link, depth, rest) {
+        match turn(s, rows, scope, n, body, at, link, depth, rest) {
             Answer::Not(why) => return Answer::Not(why),
             Answer::Done {
                 root,
@@ -431,7 +419,6 @@ fn iter(
 // The body on one tree, alone; its result as a link in front of the links before.
 fn turn(
     s: &[u8],
-    l: Layout,
     rows: &mut [u8],
     scope: Scope,
     used: usize,
@@ -441,7 +428,7 @@ fn turn(
     depth: usize,
     purse: Purse,
 ) -> Answer
-    requires { ⌜ (Edits (now s) l (now rows) scope used at (purse .left) (fits (now s) depth scope body)) × (0 < at) × (link ≤ used) × (Links (on (now s) (now rows) link)) ⌝ }
+    requires { ⌜ (Edits (now s) (now rows) scope used at (purse .left) (fits (now s) depth scope body)) × (0 < at) × (link ≤ used) × (Links (on (now s) (now rows) link)) ⌝ }
     ensures { λ a. ⌜ Turns (turnOf (body-went (now (s .entry)) (now (rows .entry)) scope depth body) (alone (on (now (s .entry)) (now (rows .entry)) at)) (on (now (s .entry)) (now (rows .entry)) link)) (pool (now (s .entry))) (purse .left) used (used + purse .left + count (gathered (on (now (s .entry)) (now (rows .entry)) link))) (now (rows .entry)) (now (rows .exit)) a ⌝ }
 {
     match purse.take() {
@@ -449,7 +436,7 @@ fn turn(
         Taken::Left(paid) => {
             let t = rows::row(rows, at);
             let one = rows::push(rows, used, t.kind as usize, t.p, t.q, 0);
-            match statement(s, l, rows, scope, one, body, one, depth, paid) {
+            match statement(s, rows, scope, one, body, one, depth, paid) {
                 Answer::Not(why) => Answer::Not(why),
                 Answer::Done {
                     root,
@@ -464,7 +451,6 @@ fn turn(
 // A call's queries, in order; then the procedure's body with what they gave as its only variables.
 fn call(
     s: &[u8],
-    l: Layout,
     rows: &mut [u8],
     scope: Scope,
     used: usize,
@@ -475,15 +461,15 @@ fn call(
     depth: usize,
     purse: Purse,
 ) -> Answer
-    requires { ⌜ (Edits (now s) l (now rows) scope used focus (purse .left) (fits-row (now s) depth scope (Statement.call c (present q r)))) × (fits-called (now s) depth c q r) ⌝ }
+    requires { ⌜ (Edits (now s) (now rows) scope used focus (purse .left) (fits-row (now s) depth scope (Statement.call c (present q r)))) × (fits-called (now s) depth c q r) ⌝ }
     ensures { λ a. ⌜ Meets (row-went (now (s .entry)) (now (rows .entry)) scope depth 0 (Statement.call c (present q r)) focus) (pool (now (s .entry))) (purse .left) used (now (rows .entry)) (now (rows .exit)) a ⌝ }
 {
-    let body = sheet::procedure_row(s, l, c).body;
+    let body = sheet::procedure_at(s, c).body;
     let none = Scope::new();
     if q == 0 {
-        return statement(s, l, rows, none, used, body, focus, depth, purse);
+        return statement(s, rows, none, used, body, focus, depth, purse);
     }
-    match query(s, l, rows, scope, used, q, depth, purse) {
+    match query(s, rows, scope, used, q, depth, purse) {
         Answer::Not(why) => Answer::Not(why),
         Answer::Done {
             root: x,
@@ -492,15 +478,15 @@ fn call(
         } => {
             let one = none.with(1, x);
             if r == 0 {
-                return statement(s, l, rows, one, n, body, focus, depth, paid);
+                return statement(s, rows, one, n, body, focus, depth, paid);
             }
-            match query(s, l, rows, scope, n, r, depth, paid) {
+            match query(s, rows, scope, n, r, depth, paid) {
                 Answer::Not(why) => Answer::Not(why),
                 Answer::Done {
                     root: y,
                     used: m,
                     purse: rest,
-                } => statement(s, l, rows, one.with(1, y), m, body, focus, depth, rest),
+                } => statement(s, rows, one.with(1, y), m, body, focus, depth, rest),
             }
         }
     }

@@ -15,7 +15,7 @@ pub fn field(x: usize) {
 fn row_line(result: &[u8], r: usize)
     requires { ⌜ (0 < r) × (r < 65536) ⌝ }
 {
-    let c = rows::row(result, r);
+    let c = rows::any_row(result, r);
     number(r);
     field(c.kind as usize);
     field(c.p);

@@ -41,7 +41,7 @@ pub fn row(s: &[u8], l: Layout, work: &[u8], r: usize) -> Row
     if r <= l.types {
         return sheet::type_row(s, l, r);
     }
-    rows::row(work, r - l.types)
+    rows::any_row(work, r - l.types)
 }
 
 // A row is written: one unit.

@@ -1,3 +1,4 @@
 pub mod Arms
+pub mod ForestRows
 pub mod RowTests
 pub mod Words

@@ -1,5 +1,5 @@
 -- One turn of the loops over a table's rows: what `row_ok` answers is the meaning's test of that row; and the meaning's tables by their layout.
-use mathlib.Core.Path.{_≡_, _∙_}
+use mathlib.Core.Path.{_≡_, sym, _∙_}
 use mathlib.Core.Bool.{Bool, _&&_}
 use mathlib.Core.List.{List}
 use Prim.Native.Nat.{ℕ}
@@ -49,3 +49,11 @@ module _ {s : List ℕ} {l : Layout} (L : Laid s l) where
   pub rows-are : rows-ok (sheetOf s) ≡ every (rowTest s) (l .rows)
   unfolding rows-ok sheetOf groveOf
   rows-are = rw (L .rows)
+
+  pub pool-is : sheetOf s .grove .pool ≡ l .pool
+  unfolding sheetOf groveOf
+  pool-is = sym (L .pool)
+
+  -- a forest row's test, of the row as it was read
+  pub forest-turn : (i : ℕ) {c : Row} {r : Bool} → cellsOf c ≡ groveOf s .row i → r ≡ rowOk (sheetOf s) 4 forestUses i (cellsOf c) → r ≡ rowTest s i
+  forest-turn i e t = rw e at t

@@ -8,11 +8,11 @@ ghost use lib.Dec.{eqb};
 ghost use mathlib.Core.List.{List};
 ghost use Prim.Native.Nat.{ℕ};
 ghost use Rattle.meaning.specs.Tests.{inTable};
-ghost use Rattle.meaning.specs.Sheet.{scriptOf, sheetOf};
-ghost use Rattle.meaning.specs.Shape.{typeUses, queryUses, statementUses, forestUses, is-part, is-size, wordOk, wordsOk, types-ok, queries-ok, statements-ok, rows-ok};
+ghost use Rattle.meaning.specs.Sheet.{Sheet, scriptOf, sheetOf};
+ghost use Rattle.meaning.specs.Shape.{typeUses, queryUses, statementUses, forestUses, absent, is-label, is-part, is-link, is-size, wordOk, wordsOk, types-ok, queries-ok, statements-ok, rows-ok};
 ghost use Rattle.meaning.specs.Shape as meaning;
 ghost use Rattle.sheet.specs.Laid.{Laid, cellsOf, procedureOf};
-ghost use Rattle.kinds.specs.Told.{useOf, usesOf, isKnown, usesIn, Says, Calls};
+ghost use Rattle.kinds.specs.Told.{useOf, usesOf, isKnown, usesIn, rowOk, Says, Calls};
 
 // What a word of a row is for.
 pub enum Use {
@@ -274,6 +274,42 @@ pub fn statements_ok(s: &[u8], l: Layout) -> bool
     true
 }
 
+// A false or a true has no word but next.
+fn both_absent(p: usize, q: usize) -> bool
+    ensures { λ r. ⌜ r ≡ absent p && absent q ⌝ }
+{
+    if p != 0 {
+        return false;
+    }
+    q == 0
+}
+
+// A labelled tree's child is a lower row.
+fn label_and_link(row: usize, p: usize, q: usize) -> bool
+    ensures { λ r. ⌜ r ≡ is-label p && is-link row q ⌝ }
+{
+    if 1023 < p {
+        return false;
+    }
+    q < row
+}
+
+// A forest row, of which a sheet has the most: as `row_ok` of its uses, by its kind at once.
+fn forest_ok(pool: usize, row: usize, c: Row) -> bool
+    ensures { λ r. ⌜ ((s : Sheet) → s .grove .pool ≡ pool → r ≡ rowOk s 4 forestUses row (cellsOf c)) ⌝ }
+{
+    if row <= c.r {
+        return false;
+    }
+    let kind = c.kind;
+    match kind {
+        1 => in_pool(pool, c.p, c.q),
+        2 | 3 => both_absent(c.p, c.q),
+        4 => label_and_link(row, c.p, c.q),
+        0 | 5..=65535 => false,
+    }
+}
+
 pub fn rows_ok(s: &[u8], l: Layout) -> bool
     requires { ⌜ Laid (now s) l ⌝ }
     ensures { λ r. ⌜ r ≡ rows-ok (sheetOf (now (s .entry))) ⌝ }
@@ -282,7 +318,7 @@ pub fn rows_ok(s: &[u8], l: Layout) -> bool
     while i < l.rows {
         i += 1;
         let c = sheet::forest_row(s, l, i);
-        if !row_ok(l, forest_uses(c), i, c) {
+        if !forest_ok(l.pool, i, c) {
             return false;
         }
     }

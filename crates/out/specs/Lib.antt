@@ -1,3 +1,5 @@
--- How many rows a forest takes, and what rows written into lent bytes are.
-pub mod Sizes
+-- A forest by its first tree, the rows that it is counted in, and the rows that it is written as.
+pub mod Trees
+pub mod Count
+pub mod Replaced
 pub mod Written

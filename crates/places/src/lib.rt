@@ -6,6 +6,7 @@ ghost use Prim.Native.Nat.{_+_, _<_, _≤_};
 ghost use lib.ListN.{length};
 ghost use Rattle.meaning.specs.Sheet.{row3};
 ghost use Rattle.meaning.specs.Places.{nullable};
+ghost use Rattle.sheet.specs.Whole.{Lies};
 ghost use Rattle.barren.specs.Flags.{flag};
 ghost use Rattle.places.specs.Tables.{Rows, rowModel, Nulls, Firsts, Tables, Passed, Ready, Fell, Ended, Free, Wires};
 ghost use Rattle.bits.specs.Sets.{Clear};
@@ -13,7 +14,7 @@ ghost use Rattle.bits.specs.Sets.{Clear};
 // Whether row `i` may be empty, from the flags of the rows below it.
 fn may_be_empty(s: &[u8], at: usize, n: usize, i: usize, null: &[u8; 513]) -> bool
     requires { ⌜ Rows (row3 (now s) at n) n ⌝ }
-    requires { ⌜ at < 4194304 ⌝ }
+    requires { ⌜ Lies (now s) at 3 n ⌝ }
     requires { ⌜ (1 ≤ i) × (i ≤ n) ⌝ }
     requires { ⌜ Nulls (row3 (now s) at n) (now null) i ⌝ }
     ensures { λ r. ⌜ r ≡ nullable (rowModel (row3 (now (s .entry)) at n) i) ⌝ }
@@ -43,7 +44,7 @@ fn may_be_empty(s: &[u8], at: usize, n: usize, i: usize, null: &[u8; 513]) -> bo
 // What may stand first at row `i`, from the rows below it.
 fn begin(s: &[u8], at: usize, n: usize, i: usize, null: &[u8; 513], first: &mut [u64; 4617])
     requires { ⌜ Rows (row3 (now s) at n) n ⌝ }
-    requires { ⌜ at < 4194304 ⌝ }
+    requires { ⌜ Lies (now s) at 3 n ⌝ }
     requires { ⌜ (1 ≤ i) × (i ≤ n) ⌝ }
     requires { ⌜ Nulls (row3 (now s) at n) (now null) i ⌝ }
     requires { ⌜ Firsts (row3 (now s) at n) (now first) i ⌝ }
@@ -73,7 +74,7 @@ fn begin(s: &[u8], at: usize, n: usize, i: usize, null: &[u8; 513], first: &mut 
 // Both tables, row by row from below.
 pub fn firsts(s: &[u8], at: usize, n: usize, null: &mut [u8; 513], first: &mut [u64; 4617])
     requires { ⌜ Rows (row3 (now s) at n) n ⌝ }
-    requires { ⌜ at < 4194304 ⌝ }
+    requires { ⌜ Lies (now s) at 3 n ⌝ }
     requires { ⌜ length (now null) ≡ 513 ⌝ }
     requires { ⌜ Clear (now first) ⌝ }
     ensures { λ _. ⌜ Tables (row3 (now (s .entry)) at n) n (now (null .exit)) (now (first .exit)) ⌝ }
@@ -116,7 +117,7 @@ fn fall(
     behind: &mut [u64; 4617],
 )
     requires { ⌜ Rows (row3 (now s) at n) n ⌝ }
-    requires { ⌜ at < 4194304 ⌝ }
+    requires { ⌜ Lies (now s) at 3 n ⌝ }
     requires { ⌜ (1 ≤ i) × (i ≤ n) ⌝ }
     requires { ⌜ Tables (row3 (now s) at n) n (now null) (now first) ⌝ }
     requires { ⌜ Ready (row3 (now s) at n) (now behind) i ⌝ }
@@ -166,7 +167,7 @@ pub fn behinds(
     behind: &mut [u64; 4617],
 )
     requires { ⌜ Rows (row3 (now s) at n) n ⌝ }
-    requires { ⌜ at < 4194304 ⌝ }
+    requires { ⌜ Lies (now s) at 3 n ⌝ }
     requires { ⌜ top ≤ n ⌝ }
     requires { ⌜ Tables (row3 (now s) at n) n (now null) (now first) ⌝ }
     requires { ⌜ Free (row3 (now s) at n) (now root) top × Clear (now behind) ⌝ }

@@ -1,14 +1,14 @@
--- What becomes of a result: it needs more rows than are lent, and nothing is written; or its rows stand in front of what was lent. The sizes as they are counted judge it: a lent slice counts at most 65,535 rows.
-use Prim.Native.Nat.{ℕ, _+_, _≤_, _<_}
+-- What becomes of a result: it needs more rows than are lent, and nothing is written; or its rows stand in front of what was lent.
+use Prim.Native.Nat.{ℕ, _≤_, _<_}
 use mathlib.Core.Path.{_≡_, refl, subst}
 use mathlib.Core.List.{List}
 use native.Mathlib.Omega.{arith}
-use lib.ListN.{getD}
 use Rattle.meaning.specs.Words.{rowsLent}
 use Rattle.meaning.specs.Forest.{forestAt, forestSize}
 use Rattle.meaning.specs.Reply.{given}
 use Rattle.meaning.specs.Theorems.ReadBack.{lentRow}
-use Rattle.out.specs.Sizes.{Below}
+use Rattle.out.specs.Count.{Counts}
+use Rattle.out.specs.Written.{Written, given-out}
 use Rattle.room.specs.declared.Handed.{Handed}
 use Rattle.room.specs.declared.Handed.the-variants.{Room, Rows}
 
@@ -27,9 +27,13 @@ module _ {work old new : List ℕ} {root : ℕ} {h : Handed} where
   pub hands-rows : {n : ℕ} → h ≡ Rows n → HandsOut work root old new h → HandsBy work root old new (Rows n)
   hands-rows e m = subst (HandsBy work root old new) e (m .by)
 
-module _ {work : List ℕ} {root : ℕ} (sizes : List ℕ) (used : ℕ) (sized : Below work (used + 1) sizes) (inside : root ≤ used) (old : List ℕ) where
-  pub room-short : rowsLent old < getD sizes root 0 → HandsOut work root old old Room
-  room-short h = record { by = (refl, λ byte. omega (arith, sized byte root (omega arith))) }
+-- the rows were counted up to one past those that are lent
+module _ {work : List ℕ} {root n room : ℕ} (old : List ℕ) (lent : room ≡ rowsLent old) (counts : Counts work root 0 room n) where
+  pub room-short : room < n → HandsOut work root old old Room
+  room-short h = record { by = (refl, λ byte. omega (arith, counts .is byte)) }
 
-  pub room-enough : {new : List ℕ} → getD sizes root 0 ≤ rowsLent old → ((byte : ℕ → ℕ) → new ≡ given (forestAt byte (lentRow work) root) old) → HandsOut work root old new (Rows (getD sizes root 0))
-  room-enough h w = record { by = (h, λ byte. (omega (arith, sized byte root (omega arith)), w byte)) }
+  pub room-exact : n ≤ room → (byte : ℕ → ℕ) → n ≡ forestSize (forestAt byte (lentRow work) root)
+  room-exact h byte = omega (arith, counts .is byte)
+
+  pub room-enough : {first : ℕ} {new : List ℕ} → n ≤ room → Written work root first n old new → HandsOut work root old new (Rows n)
+  room-enough h w = record { by = (omega arith, λ byte. let e = room-exact h byte in (e, given-out w byte e)) }

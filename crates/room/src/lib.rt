@@ -1,9 +1,7 @@
-// The result, handed out: Room is judged by its size, and only then are its rows written.
+// The result, handed out: its rows are counted first, so Room leaves the result rows untouched.
 ghost use mathlib.Core.Path.{_≡_};
-ghost use Prim.Native.Nat.{_≤_};
 ghost use Rattle.meaning.specs.Words.{rowsLent};
-ghost use Rattle.meaning.specs.Laws.Rows.{LowRows};
-ghost use Rattle.meaning.specs.Theorems.ReadBack.{lentRow};
+ghost use Rattle.rows.specs.Rows.{Readable};
 ghost use Rattle.room.specs.Hands.{HandsOut};
 
 // Too few rows are lent, or so many are written.
@@ -21,16 +19,15 @@ pub fn rows_lent(b: &[u8]) -> usize
 }
 
 // The forest at row `root` of the working rows, from row 1 of the result on.
-pub fn hand_out(work: &[u8], used: usize, root: usize, result: &mut [u8]) -> Handed
-    requires { ⌜ (root ≤ used) × (used ≤ 6144) × (LowRows (lentRow (now work)) used) ⌝ }
+pub fn hand_out(work: &[u8], root: usize, result: &mut [u8]) -> Handed
+    requires { ⌜ Readable (now work) root ⌝ }
     ensures { λ r. ⌜ HandsOut (now (work .entry)) root (now (result .entry)) (now (result .exit)) r ⌝ }
 {
-    let mut sizes = [0u32; 6145];
-    out::sizes(work, used, &mut sizes);
-    let n = sizes[root] as usize;
-    if rows_lent(result) < n {
+    let room = rows_lent(result);
+    let n = out::count(work, root, 0, room);
+    if room < n {
         return Handed::Room;
     }
-    out::write_out(work, &sizes, root, result);
+    out::write(work, root, n, result);
     Handed::Rows(n)
 }

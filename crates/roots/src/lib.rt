@@ -8,6 +8,7 @@ ghost use lib.Dec.{eqb};
 ghost use Rattle.meaning.specs.Tests.{some};
 ghost use Rattle.meaning.specs.Sheet.{row3};
 ghost use Rattle.sheet.specs.Laid.{Laid};
+ghost use Rattle.sheet.specs.Whole.{Lies};
 ghost use Rattle.barren.specs.Flags.{flag};
 ghost use Rattle.roots.specs.Roots.{Marked, Rooted, named-root, signed-root, held-root};
 
@@ -61,7 +62,7 @@ fn procedure_roots(s: &[u8], l: Layout, root: &mut [u8; 513])
 
 // The content of row `i`, if that is a label.
 fn content(s: &[u8], at: usize, n: usize, i: usize, root: &mut [u8; 513])
-    requires { ⌜ (at < 4194304) × (n < 65536) ⌝ }
+    requires { ⌜ Lies (now s) at 3 n ⌝ }
     requires { ⌜ length (now root) ≡ 513 ⌝ }
     ensures { λ _. ⌜ Marked (now (root .entry)) (now (root .exit)) (λ y. held-root (row3 (now (s .entry)) at n) y i) ⌝ }
 {
@@ -72,7 +73,7 @@ fn content(s: &[u8], at: usize, n: usize, i: usize, root: &mut [u8; 513])
 }
 
 pub fn content_roots(s: &[u8], at: usize, n: usize, root: &mut [u8; 513])
-    requires { ⌜ (at < 4194304) × (n < 65536) ⌝ }
+    requires { ⌜ Lies (now s) at 3 n ⌝ }
     requires { ⌜ length (now root) ≡ 513 ⌝ }
     ensures { λ _. ⌜ Marked (now (root .entry)) (now (root .exit)) (λ y. some (held-root (row3 (now (s .entry)) at n) y) n) ⌝ }
 {

@@ -355,10 +355,10 @@ module _ {s : List ℕ} {used l a : ℕ} (low : LowRows (lentRow s) used) (first
     pick-step h w byte = copy-more byte low (g .copy byte) c (kept l (forestAt byte (lentRow s) (c .r))) (here-child s t used at c low same-then (g .some) (g .within) is) (pick-is byte) h w
 
     -- the search goes on in the rows as they are then
-    pub pick-readable : {t' : List ℕ} → used < 65536 → used < to → Pushed t t' to (record { kind = c .kind; p = c .p; q = c .q; r = to }) → Readable t' (c .r)
-    pick-readable {t'} small h w =
+    pub pick-readable : {t' : List ℕ} → used < 65536 → used < to → Pushed t t' to (record { kind = c .kind; p = c .p; q = c .q; r = to }) → 8 * used ≤ length t' → Readable t' (c .r)
+    pick-readable {t'} small h w long =
         let n = pick-next in
-        record { low = λ i p q. low-same used (lentRow s) (lentRow t') low (pick-step h w any .same) i p (omega arith); small = omega arith }
+        record { low = λ i p q. low-same used (lentRow s) (lentRow t') low (pick-step h w any .same) i p (omega arith); small = omega arith; there = omega arith }
 
     pub pick-more : {t' : List ℕ} {y : ℕ} → used < to → length t' ≡ length t → Pushed t t' to (record { kind = c .kind; p = c .p; q = c .q; r = to }) → Sought t' l (c .r) y → Picking s t' used l a y top (to - 1)
     pick-more {t'} {y} h e w f' =

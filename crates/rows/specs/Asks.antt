@@ -16,7 +16,7 @@ use Rattle.rows.specs.declared.Seen.the-variants.{Nothing, Many, Text, B
 
 -- a row in use can be read
 pub readable : {s : List ℕ} {used left : ℕ} (a : ℕ) → Roomy s used left → a ≤ used → Readable s a
-readable a r h = record { low = λ i p q. r .low i p (omega arith); small = omega (arith, r .small) }
+readable a r h = record { low = λ i p q. r .low i p (omega arith); small = omega (arith, r .small); there = omega (arith, r .room) }
 
 -- a labelled tree over a row in use; a text or a bool
 pub node-asks : {s : List ℕ} {used left : ℕ} (l q : ℕ) → Roomy s used left → l < 65536 → q ≤ used → MakeAsks s used 4 l q left

@@ -17,10 +17,11 @@ use Rattle.walk.specs.Loop.{Links, gathered}
 use Rattle.rows.specs.declared.Seen.{Seen}
 use Rattle.rows.specs.declared.Seen.the-variants.{Nothing, Many, Text, Bool, Node}
 
--- rows up to r refer to lower ones
+-- rows up to r are there, and refer to lower ones
 pub record Readable (rows : List ℕ) (r : ℕ) : Type 0 where
   pub low : LowRows (lentRow rows) r
   pub small : r < 65536
+  pub there : 8 * r ≤ length rows
 
 -- row n + 1 was written, and no other
 pub record Pushed (s t : List ℕ) (n : ℕ) (c : Cells) : Type 0 where

@@ -6,6 +6,7 @@ use walk::Stop;
 use walk::Taken;
 use words::put_word;
 use words::word_at;
+use words::word_in;
 ghost use mathlib.Core.Path.{_≡_};
 ghost use Prim.Native.Nat.{ℕ, _+_, _*_, _-_, _<_, _≤_};
 ghost use lib.ListN.{length};
@@ -17,8 +18,23 @@ ghost use Rattle.walk.specs.Meets.{Meets, Roomy};
 ghost use Rattle.walk.specs.Loop.{Links, Turns, gathered, keepOf};
 ghost use Rattle.rows.specs.Rows.{Readable, Pushed, JoinAsks, Joined, GatherAsks, Gathered, PickAsks, Picked, Judged, Sought, Sees, MakeAsks, made, fronted, pickedOf};
 
-// Row `r`, from 1.
+// Row `r`, from 1, all of it there.
 pub fn row(rows: &[u8], r: usize) -> Row
+    requires { ⌜ (0 < r) × (r < 65536) × (8 * r ≤ length (now rows)) ⌝ }
+    ensures is { λ c. ⌜ cellsOf c ≡ lentRow (now (rows .entry)) r ⌝ }
+    ensures small { λ c. ⌜ Words (cellsOf c) ⌝ }
+{
+    let i = 4 * (r - 1);
+    Row {
+        kind: word_in(rows, i) as u16,
+        p: word_in(rows, i + 1),
+        q: word_in(rows, i + 2),
+        r: word_in(rows, i + 3),
+    }
+}
+
+// Row `r`, from 1; what lies past the end of the rows reads as 0.
+pub fn any_row(rows: &[u8], r: usize) -> Row
     requires { ⌜ (0 < r) × (r < 65536) ⌝ }
     ensures is { λ c. ⌜ cellsOf c ≡ lentRow (now (rows .entry)) r ⌝ }
     ensures small { λ c. ⌜ Words (cellsOf c) ⌝ }

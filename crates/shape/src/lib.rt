@@ -166,11 +166,11 @@ fn tables_ok(s: &[u8], l: Layout) -> bool
 pub fn shapely(s: &[u8]) -> bool
     ensures { λ r. ⌜ r ≡ meaning.shapely (now (s .entry)) ⌝ }
 {
-    let l = sheet::lay_out(s);
-    let need = sheet::need_of(s, l);
+    let need = sheet::need_of(s);
     if s.len() < need {
         return false;
     }
+    let l = sheet::lay_out(s);
     if !tables_ok(s, l) {
         return false;
     }

@@ -6,10 +6,12 @@ use Prim.Native.Nat.{ℕ, _+_, _*_, _<_, _≤_, _-_}
 use native.Mathlib.Omega.{arith}
 use borrow.Author.Tests.{le-leb, lt-leb}
 use lib.Dec.{leb}
+use lib.ListN.{length}
 use Rattle.meaning.specs.Tests.{inTable}
 use Rattle.meaning.specs.Words.{wordAt}
 use Rattle.meaning.specs.Sheet.{Cells, names-of, types-of, queries-of, statements-of, procedures-of, rows-of, pool-of, types-at, queries-at, statements-at, procedures-at, rows-at, pool-at, blank, no-procedure, row3, row4, row5, scriptOf, groveOf}
 use Rattle.meaning.specs.Sheet as meaning
+use Rattle.sheet.specs.Whole.{Whole, Lies}
 use Rattle.sheet.specs.declared.Row.{Row}
 use Rattle.sheet.specs.declared.Procedure.{Procedure}
 use Rattle.sheet.specs.declared.Layout.{Layout}
@@ -30,8 +32,9 @@ pub record Words (c : Cells) : Type 0 where
 pub blank-words : {c : Cells} → c ≡ blank → Words c
 blank-words e = rw e (record { kind = omega arith; p = omega arith; q = omega arith; r = omega arith })
 
--- the layout is that of the sheet s
+-- the layout is that of the sheet s, which is whole
 pub record Laid (s : List ℕ) (l : Layout) : Type 0 where
+  pub whole : Whole s
   pub names : l .names ≡ names-of s
   pub types : l .types ≡ types-of s
   pub queries : l .queries ≡ queries-of s
@@ -132,6 +135,38 @@ module _ {s : List ℕ} {l : Layout} (L : Laid s l) where
   unfolding scriptOf
   a-name x e = rw (← (L .names), e)
 
--- the table of types begins at a small number
-pub laid-at : {s : List ℕ} {l : Layout} → Laid s l → l .«types_at» < 4194304
-laid-at L = omega (arith, L .types-at, L .names, L .few-names)
+-- each table lies in the sheet's bytes
+module _ {s : List ℕ} {l : Layout} (L : Laid s l) where
+  pub types-lie : Lies s (l .«types_at») 3 (l .types)
+  types-lie = record { bytes = omega (arith, L .whole .bytes, L .types-at, L .types); low = omega (arith, L .types-at, L .names, L .few-names); few = L .few-types }
+
+  pub queries-lie : Lies s (l .«queries_at») 4 (l .queries)
+  queries-lie = record {
+    bytes = omega (arith, L .whole .bytes, L .queries-at, L .queries);
+    low = omega (arith, L .queries-at, L .names, L .few-names, L .types, L .few-types);
+    few = L .few-queries;
+  }
+
+  pub statements-lie : Lies s (l .«statements_at») 4 (l .statements)
+  statements-lie = record {
+    bytes = omega (arith, L .whole .bytes, L .statements-at, L .statements);
+    low = omega (arith, L .statements-at, L .names, L .few-names, L .types, L .few-types, L .queries, L .few-queries);
+    few = L .few-statements;
+  }
+
+  pub procedures-lie : Lies s (l .«procedures_at») 5 (l .procedures)
+  procedures-lie = record {
+    bytes = omega (arith, L .whole .bytes, L .procedures-at, L .procedures);
+    low = omega (arith, L .procedures-at, L .names, L .few-names, L .types, L .few-types, L .queries, L .few-queries, L .statements, L .few-statements);
+    few = L .few-procedures;
+  }
+
+  pub rows-lie : Lies s (l .«rows_at») 4 (l .rows)
+  rows-lie = record {
+    bytes = omega (arith, L .whole .bytes, L .rows-at, L .rows);
+    low = omega (arith, L .rows-at, L .names, L .few-names, L .types, L .few-types, L .queries, L .few-queries, L .statements, L .few-statements, L .procedures, L .few-procedures);
+    few = L .few-rows;
+  }
+
+  pub names-lie : 2 * (13 + l .names) ≤ length s
+  names-lie = omega (arith, L .whole .bytes, L .names)

@@ -1,9 +1,12 @@
 // A lent sheet: its header, where each table begins, and one row of each table as a small struct. What is no row of its table reads as zeros, so nobody above asks about bounds.
+// A row is read of a sheet that is whole, so no word is tested for the end of the bytes.
 use words::word_at;
+use words::word_in;
 ghost use mathlib.Core.Path.{_≡_};
 ghost use Prim.Native.Nat.{ℕ, _+_, _*_, _-_, _<_, _≤_};
-ghost use Rattle.meaning.specs.Sheet.{blank, need, scriptOf, groveOf, row3, row4, row5};
+ghost use Rattle.meaning.specs.Sheet.{blank, need, types-of, pool-at, scriptOf, groveOf, row3, row4, row5};
 ghost use Rattle.sheet.specs.Laid.{Laid, Words, cellsOf, procedureOf};
+ghost use Rattle.sheet.specs.Whole.{Whole, Lies};
 
 // One row of types, queries, statements or forests: its kind and its words. Types have no `r`; in a forest row it is the next tree.
 pub struct Row {
@@ -44,15 +47,40 @@ pub struct Layout {
     pub pool_at: usize,
 }
 
+// The byte at which the pool begins, and the bytes that the counts ask for, of any bytes: what lies past their end reads as 0.
+pub fn pool_from(s: &[u8]) -> usize
+    ensures is { λ r. ⌜ r ≡ 2 * pool-at (now (s .entry)) ⌝ }
+    ensures small { λ r. ⌜ r < 3145728 ⌝ }
+{
+    let procedures_at = 13 + word_at(s, 0) + 3 * word_at(s, 1) + 4 * word_at(s, 2) + 4 * word_at(s, 3);
+    2 * (procedures_at + 5 * word_at(s, 4) + 4 * word_at(s, 5))
+}
+
+pub fn need_of(s: &[u8]) -> usize
+    ensures is { λ r. ⌜ r ≡ need (now (s .entry)) ⌝ }
+    ensures small { λ r. ⌜ r < 4194304 ⌝ }
+{
+    pool_from(s) + word_at(s, 6)
+}
+
+// How many type rows the header says there are, in any bytes.
+pub fn types_told(s: &[u8]) -> usize
+    ensures is { λ r. ⌜ r ≡ types-of (now (s .entry)) ⌝ }
+    ensures small { λ r. ⌜ r < 65536 ⌝ }
+{
+    word_at(s, 1)
+}
+
 pub fn lay_out(s: &[u8]) -> Layout
+    requires { ⌜ Whole (now s) ⌝ }
     ensures { λ l. ⌜ Laid (now (s .entry)) l ⌝ }
 {
-    let names = word_at(s, 0);
-    let types = word_at(s, 1);
-    let queries = word_at(s, 2);
-    let statements = word_at(s, 3);
-    let procedures = word_at(s, 4);
-    let rows = word_at(s, 5);
+    let names = word_in(s, 0);
+    let types = word_in(s, 1);
+    let queries = word_in(s, 2);
+    let statements = word_in(s, 3);
+    let procedures = word_in(s, 4);
+    let rows = word_in(s, 5);
     let types_at = 13 + names;
     let queries_at = types_at + 3 * types;
     let statements_at = queries_at + 4 * queries;
@@ -65,13 +93,13 @@ pub fn lay_out(s: &[u8]) -> Layout
         statements,
         procedures,
         rows,
-        pool: word_at(s, 6),
-        a: word_at(s, 7),
-        b: word_at(s, 8),
-        main: word_at(s, 9),
-        root: word_at(s, 10),
-        check_fuel: word_at(s, 11),
-        run_fuel: word_at(s, 12),
+        pool: word_in(s, 6),
+        a: word_in(s, 7),
+        b: word_in(s, 8),
+        main: word_in(s, 9),
+        root: word_in(s, 10),
+        check_fuel: word_in(s, 11),
+        run_fuel: word_in(s, 12),
         types_at,
         queries_at,
         statements_at,
@@ -79,14 +107,6 @@ pub fn lay_out(s: &[u8]) -> Layout
         rows_at,
         pool_at: rows_at + 4 * rows,
     }
-}
-
-// The bytes that the counts ask for.
-pub fn need_of(s: &[u8], l: Layout) -> usize
-    requires { ⌜ Laid (now s) l ⌝ }
-    ensures { λ r. ⌜ r ≡ need (now (s .entry)) ⌝ }
-{
-    2 * l.pool_at + l.pool
 }
 
 fn no_row() -> Row
@@ -102,7 +122,7 @@ fn no_row() -> Row
 
 // Row `r` of a table of `n` rows of three words that begins at word `at`.
 pub fn row_of_three(s: &[u8], at: usize, n: usize, r: usize) -> Row
-    requires { ⌜ (at < 4194304) × (n < 65536) ⌝ }
+    requires { ⌜ Lies (now s) at 3 n ⌝ }
     ensures { λ c. ⌜ cellsOf c ≡ row3 (now (s .entry)) at n r ⌝ }
 {
     if r == 0 {
@@ -113,15 +133,15 @@ pub fn row_of_three(s: &[u8], at: usize, n: usize, r: usize) -> Row
     }
     let i = at + 3 * (r - 1);
     Row {
-        kind: word_at(s, i) as u16,
-        p: word_at(s, i + 1),
-        q: word_at(s, i + 2),
+        kind: word_in(s, i) as u16,
+        p: word_in(s, i + 1),
+        q: word_in(s, i + 2),
         r: 0,
     }
 }
 
 fn row_of_four(s: &[u8], at: usize, n: usize, r: usize) -> Row
-    requires { ⌜ (at < 4194304) × (n < 65536) ⌝ }
+    requires { ⌜ Lies (now s) at 4 n ⌝ }
     ensures is { λ c. ⌜ cellsOf c ≡ row4 (now (s .entry)) at n r ⌝ }
     ensures small { λ c. ⌜ Words (cellsOf c) ⌝ }
 {
@@ -133,10 +153,10 @@ fn row_of_four(s: &[u8], at: usize, n: usize, r: usize) -> Row
     }
     let i = at + 4 * (r - 1);
     Row {
-        kind: word_at(s, i) as u16,
-        p: word_at(s, i + 1),
-        q: word_at(s, i + 2),
-        r: word_at(s, i + 3),
+        kind: word_in(s, i) as u16,
+        p: word_in(s, i + 1),
+        q: word_in(s, i + 2),
+        r: word_in(s, i + 3),
     }
 }
 
@@ -151,7 +171,7 @@ pub fn name_row(s: &[u8], l: Layout, x: usize) -> usize
     if l.names < x {
         return 0;
     }
-    word_at(s, 13 + (x - 1))
+    word_in(s, 13 + (x - 1))
 }
 
 pub fn type_row(s: &[u8], l: Layout, r: usize) -> Row
@@ -208,10 +228,42 @@ pub fn procedure_row(s: &[u8], l: Layout, c: usize) -> Procedure
     }
     let i = l.procedures_at + 5 * (c - 1);
     Procedure {
-        first: word_at(s, i),
-        second: word_at(s, i + 1),
-        input: word_at(s, i + 2),
-        output: word_at(s, i + 3),
-        body: word_at(s, i + 4),
+        first: word_in(s, i),
+        second: word_in(s, i + 1),
+        input: word_in(s, i + 2),
+        output: word_in(s, i + 3),
+        body: word_in(s, i + 4),
     }
+}
+
+// ---- rows without a layout to carry, by the header's words
+
+pub fn query_at(s: &[u8], r: usize) -> Row
+    requires { ⌜ Whole (now s) ⌝ }
+    ensures is { λ c. ⌜ cellsOf c ≡ scriptOf (now (s .entry)) .queryRow r ⌝ }
+    ensures small { λ c. ⌜ Words (cellsOf c) ⌝ }
+{
+    let names = word_in(s, 0);
+    let types = word_in(s, 1);
+    let queries = word_in(s, 2);
+    row_of_four(s, 13 + names + 3 * types, queries, r)
+}
+
+pub fn statement_at(s: &[u8], r: usize) -> Row
+    requires { ⌜ Whole (now s) ⌝ }
+    ensures is { λ c. ⌜ cellsOf c ≡ scriptOf (now (s .entry)) .statementRow r ⌝ }
+    ensures small { λ c. ⌜ Words (cellsOf c) ⌝ }
+{
+    let names = word_in(s, 0);
+    let types = word_in(s, 1);
+    let queries = word_in(s, 2);
+    let statements = word_in(s, 3);
+    row_of_four(s, 13 + names + 3 * types + 4 * queries, statements, r)
+}
+
+pub fn procedure_at(s: &[u8], c: usize) -> Procedure
+    requires { ⌜ Whole (now s) ⌝ }
+    ensures { λ r. ⌜ procedureOf r ≡ scriptOf (now (s .entry)) .procedureRow c ⌝ }
+{
+    procedure_row(s, lay_out(s), c)
 }

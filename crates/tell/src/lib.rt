@@ -33,9 +33,9 @@ fn fit_answer(s: &[u8], row: usize) {
 }
 
 fn fit_answers(s: &[u8]) {
-    let l = sheet::lay_out(s);
+    let types = sheet::types_told(s);
     let mut row = 1;
-    while row <= l.types {
+    while row <= types {
         fit_answer(s, row);
         row += 1;
     }

@@ -9,22 +9,15 @@ use lib.Dec.{eqb}
 use lib.ListN.{getD}
 use Rattle.meaning.specs.Sheet.{groveOf, pool-at}
 use Rattle.meaning.specs.Forest.{bytesFrom, sameBytes}
-use Rattle.sheet.specs.Laid.{Laid}
-use Rattle.sheet.specs.declared.Layout.{Layout}
 use Rattle.meaning.specs.Laws.Bools.{no-right}
 
 abbrev pub pool : List ℕ → ℕ → ℕ
 pool s = groveOf s .byte
 
--- a byte of the pool, where the layout says that it begins
-pub pool-byte : (s : List ℕ) (l : Layout) (i j : ℕ) → Laid s l → j ≡ 2 * (l .«pool_at») + i → getD s j 0 ≡ pool s i
+-- a byte of the pool, where it begins
+pub pool-byte : (s : List ℕ) (i j : ℕ) {at : ℕ} → at ≡ 2 * pool-at s → j ≡ at + i → getD s j 0 ≡ pool s i
 unfolding groveOf
-pool-byte s l i j h e = ap (λ (k : ℕ). getD s k 0) (e ∙ ap (λ (k : ℕ). 2 * k + i) (h .pool-at))
-
--- every place in the sheet is a small number
-pub pool-small : (s : List ℕ) (l : Layout) → Laid s l → l .«pool_at» < 4194304
-pool-small s l L =
-    omega (arith, L .pool-at, L .names, L .types, L .queries, L .statements, L .procedures, L .rows, L .few-names, L .few-types, L .few-queries, L .few-statements, L .few-procedures, L .few-rows)
+pool-byte s i j h e = ap (λ (k : ℕ). getD s k 0) (e ∙ ap (λ (k : ℕ). k + i) h)
 
 module _ (byte : ℕ → ℕ) where
   -- as many bytes, or not the same

@@ -63,7 +63,7 @@ fn of_place(
         return Tied { row: 0, rival: 0 };
     }
     let c = heads::wide(class[h]);
-    if bits::count_both(t, k, same, c) < 2 {
+    if !bits::several_both(t, k, same, c) {
         return Tied { row: 0, rival: 0 };
     }
     let row = bits::lowest_both(t, k, same, c, 0);

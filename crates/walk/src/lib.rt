@@ -50,7 +50,7 @@ impl Purse {
 // A place of the scope: 1 for a forest variable, 2 for a tree variable; its value is a row.
 pub struct Place {
     pub kind: u8,
-    pub value: usize,
+    pub value: u16,
 }
 
 pub struct Scope {
@@ -71,12 +71,15 @@ impl Scope {
 
     // One place more.
     pub fn with(self, kind: u8, value: usize) -> Scope
-        requires { ⌜ (self .count < 16) × (length (self .places) ≡ 16) ⌝ }
+        requires { ⌜ (self .count < 16) × (length (self .places) ≡ 16) × (value < 65536) ⌝ }
         ensures { λ r. ⌜ More self r kind value ⌝ }
     {
         let n = self.count;
         let mut next = self;
-        next.places[n] = Place { kind, value };
+        next.places[n] = Place {
+            kind,
+            value: value as u16,
+        };
         next.count = n + 1;
         next
     }
@@ -91,7 +94,7 @@ impl Scope {
             return 0;
         }
         let p = self.places[v];
-        p.value
+        p.value as usize
     }
 }
 
@@ -99,7 +102,7 @@ impl Scope {
 pub enum Stop {
     Fuel,
     Depth(Purse),
-    Stuck(usize, u8, Purse),
+    Stuck(usize, usize, Purse),
 }
 
 pub enum Answer {

@@ -13,6 +13,15 @@ pub fn wide(x: u8) -> usize
     x as usize
 }
 
+// Word `i` of the bytes `b`, all of it there.
+pub fn word_in(b: &[u8], i: usize) -> usize
+    requires { ⌜ 2 * i + 1 < length (now b) ⌝ }
+    ensures is { λ r. ⌜ r ≡ wordAt (now (b .entry)) i ⌝ }
+    ensures small { λ r. ⌜ r < 65536 ⌝ }
+{
+    wide(b[2 * i]) + 256 * wide(b[2 * i + 1])
+}
+
 // Word `i` of the bytes `b`; what lies past their end reads as 0.
 pub fn word_at(b: &[u8], i: usize) -> usize
     requires { ⌜ i < 1099511627776 ⌝ }
@@ -20,14 +29,13 @@ pub fn word_at(b: &[u8], i: usize) -> usize
     ensures small { λ r. ⌜ r < 65536 ⌝ }
 {
     let at = 2 * i;
+    if at + 1 < b.len() {
+        return word_in(b, i);
+    }
     if b.len() <= at {
         return 0;
     }
-    let low = wide(b[at]);
-    if b.len() <= at + 1 {
-        return low;
-    }
-    low + 256 * wide(b[at + 1])
+    wide(b[at])
 }
 
 // Sets word `i` of the bytes `b` to `v`.

@@ -2,32 +2,32 @@
 use mathlib.Core.Path.{refl}
 use Rattle.meaning.specs.Run.{same-texts}
 use Rattle.rows.specs.Asks.{readable, sees-nothing, sees-many, sees-text, sees-bool, sees-node}
-use Rattle.ask.specs.Ask.{pool, laid-of}
+use Rattle.ask.specs.Ask.{pool}
 use Rattle.ask.proofs.Laws.{met-stuck, texts-stuck, texts-met, bool-asks}
 use borrow.Author.Needs.{needs}
 use Rattle.ask.proofs.same_texts.Statement.{statement}
 use Rattle.ask.proofs.same_texts.Tie as tie
 
 look-requires : tie.Need-look-requires
-look-requires c κs = readable (c .before .before .before .args .x) (c .before .before .before .pre .1) (c .before .before .before .pre .2)
+look-requires c κs = readable (c .before .before .before .args .x) (c .before .before .before .pre .0) (c .before .before .before .pre .1)
 
 enum-known-o : tie.Need-enum-known-o
 enum-known-o c = search needs
 
 look-requires-2 : tie.Need-look-requires-2
-look-requires-2 c κs = readable (c .before .before .before .before .before .before .before .before .args .y) (c .before .before .before .before .before .before .before .before .pre .1) (c .before .before .before .before .before .before .before .before .pre .3)
+look-requires-2 c κs = readable (c .before .before .before .before .before .before .before .before .args .y) (c .before .before .before .before .before .before .before .before .pre .0) (c .before .before .before .before .before .before .before .before .pre .2)
 
 enum-known-p : tie.Need-enum-known-p
 enum-known-p c = search needs
 
 same-bytes-requires : tie.Need-same-bytes-requires
-same-bytes-requires c κs = (laid-of (c .before .before .before .before .before .before .before .before .before .before .before .before .before .args .s .now) (c .before .before .before .before .before .before .before .before .before .before .before .before .before .args .l) (c .before .before .before .before .before .before .before .before .before .before .before .before .before .pre .0), sees-text (c .before .before .before .before .before .before .before .o .given .1) (c .before .before .before .before .before .before .before .before .before .look .ensures (pool (c .before .before .before .before .before .before .before .before .before .before .before .before .before .args .s .now))) .offset, sees-text (c .before .before .before .before .before .before .before .o .given .1) (c .before .before .before .before .before .before .before .before .before .look .ensures (pool (c .before .before .before .before .before .before .before .before .before .before .before .before .before .args .s .now))) .size, sees-text (c .before .before .p .given .1) (c .before .before .before .before .look2 .ensures (pool (c .before .before .before .before .before .before .before .before .before .before .before .before .before .args .s .now))) .offset, sees-text (c .before .before .p .given .1) (c .before .before .before .before .look2 .ensures (pool (c .before .before .before .before .before .before .before .before .before .before .before .before .before .args .s .now))) .size)
+same-bytes-requires c κs = (sees-text (c .before .before .before .before .before .before .before .o .given .1) (c .before .before .before .before .before .before .before .before .before .look .ensures (pool (c .before .before .before .before .before .before .before .before .before .before .before .before .before .args .s .now))) .offset, sees-text (c .before .before .before .before .before .before .before .o .given .1) (c .before .before .before .before .before .before .before .before .before .look .ensures (pool (c .before .before .before .before .before .before .before .before .before .before .before .before .before .args .s .now))) .size, sees-text (c .before .before .p .given .1) (c .before .before .before .before .look2 .ensures (pool (c .before .before .before .before .before .before .before .before .before .before .before .before .before .args .s .now))) .offset, sees-text (c .before .before .p .given .1) (c .before .before .before .before .look2 .ensures (pool (c .before .before .before .before .before .before .before .before .before .before .before .before .before .args .s .now))) .size)
 
 kind-of-requires : tie.Need-kind-of-requires
 kind-of-requires c κs = search needs
 
 make-requires : tie.Need-make-requires
-make-requires c κs = bool-asks (c .before .same-bytes .result) (c .kind-of .ensures) (c .before .before .before .before .before .before .before .before .before .before .before .before .before .before .before .pre .1)
+make-requires c κs = bool-asks (c .before .same-bytes .result) (c .kind-of .ensures) (c .before .before .before .before .before .before .before .before .before .before .before .before .before .before .before .pre .0)
 
 enum-told : tie.Need-enum-told
 enum-told c = search needs

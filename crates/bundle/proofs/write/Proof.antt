@@ -20,9 +20,6 @@ shapely-requires c κs = search needs
 returns : tie.Need-returns
 returns c = writes-shape (c .before .before .before .before .args .s .now) (c .before .before .before .before .args .out .now) (sym (c .before .shapely .ensures) ∙ not-true (c .before .shapely .result) (c .if1 .taken))
 
-lay-out-requires : tie.Need-lay-out-requires
-lay-out-requires c κs = search needs
-
 need-of-requires : tie.Need-need-of-requires
 need-of-requires c κs = search needs
 
@@ -33,16 +30,16 @@ mul-if2 : tie.Need-mul-if2
 mul-if2 c = search needs
 
 returns-2 : tie.Need-returns-2
-returns-2 c = writes-room (c .before .before .before .before .before .before .before .args .s .now) (c .before .before .before .before .before .before .before .args .out .now) (shapes (c .before .before .before)) (c .before .need-of .ensures) (c .if2 .taken)
+returns-2 c = writes-room (c .before .before .before .before .before .before .args .s .now) (c .before .before .before .before .before .before .args .out .now) (shapes (c .before .before)) (c .before .need-of .ensures .0) (c .if2 .taken)
 
 write-blocks-requires : tie.Need-write-blocks-requires
-write-blocks-requires c κs = (omega (arith, c .before .before .before .lay-out .ensures, c .before .before .need-of .ensures), omega (arith, c .before .before .need-of .ensures, long (c .before .before .before .before .before .before .before .before .args .s .now) (shapes (c .before .before .before .before))), c .before .if2 .left)
+write-blocks-requires c κs = (omega (arith, c .before .before .need-of .ensures .0, c .before .before .need-of .ensures .1), omega (arith, c .before .before .need-of .ensures .0, long (c .before .before .before .before .before .before .before .args .s .now) (shapes (c .before .before .before))), c .before .if2 .left)
 
 same-length : tie.Need-same-length
 same-length c = search needs
 
 returns-3 : tie.Need-returns-3
-returns-3 c = writes-done (c .before .before .before .before .before .before .before .before .before .before .before .args .s .now) (c .before .before .before .before .before .before .before .before .before .before .before .args .out .now) (shapes (c .before .before .before .before .before .before .before)) (c .before .before .before .before .before .need-of .ensures) (c .before .before .before .before .if2 .left) (c .before .before .write-blocks .ensures) (c .before .before .write-blocks .kept .1 .1 .1 .0)
+returns-3 c = writes-done (c .before .before .before .before .before .before .before .before .before .before .args .s .now) (c .before .before .before .before .before .before .before .before .before .before .args .out .now) (shapes (c .before .before .before .before .before .before)) (c .before .before .before .before .before .need-of .ensures .0) (c .before .before .before .before .if2 .left) (c .before .before .write-blocks .ensures) (c .before .before .write-blocks .kept .1 .1 .1 .0)
 
 pub write-spec : {M : Type 1} → statement M
 write-spec =
@@ -50,7 +47,6 @@ write-spec =
     (tie.spec
     shapely-requires
     returns
-    lay-out-requires
     need-of-requires
     add-m
     mul-if2

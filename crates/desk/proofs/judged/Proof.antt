@@ -5,6 +5,7 @@ use Rattle.meaning.specs.Reply.{Loads, unsound, misshapen}
 use Rattle.ties.specs.Sound.{soundOf}
 use Rattle.ties.specs.declared.Soundness.{Soundness}
 use borrow.Author.Needs.{needs}
+use Rattle.sheet.specs.Whole.{whole-shaped}
 use Rattle.desk.proofs.judged.Statement.{statement}
 use Rattle.desk.proofs.judged.Tie as tie
 
@@ -15,7 +16,7 @@ returns : tie.Need-returns
 returns c = record { said = unsound (misshapen (sym (c .before .shapely .ensures) ∙ not-true (c .before .shapely .result) (c .if1 .taken))) }
 
 lay-out-requires : tie.Need-lay-out-requires
-lay-out-requires c κs = search needs
+lay-out-requires c κs = whole-shaped (c .before .before .before .before .before .args .s .now) (sym (c .before .shapely .ensures) ∙ not-false (c .before .shapely .result) (c .if1 .left))
 
 sound-requires : tie.Need-sound-requires
 sound-requires c κs = (sym (c .before .before .shapely .ensures) ∙ not-false (c .before .before .shapely .result) (c .before .if1 .left), c .lay-out .ensures)

@@ -22,7 +22,9 @@ same-length c = search needs
 returns : tie.Need-returns
 returns c =
     let start = c .before .before .before .before .before .before .before .before .before .before .before in
-    main-ends (start .pre .0) (start .pre .1) (c .before .before .before .before .before .before .before .load .last .1 .1 .0) (c .before .before .before .before .before .before .before .load .ensures) (c .before .before .before .new .ensures) (c .before .before .statement .ensures)
+    let load = c .before .before .before .before .before .before .before .load in
+    let statement = c .before .before .statement in
+    main-ends (start .pre .0) (start .pre .1) (load .last .1 .1 .0) (load .ensures) (c .before .before .before .new .ensures) (statement .ensures) (omega (arith, statement .kept .1 .0, load .kept .1 .1 .0, start .pre .2))
 
 pub walk-main-spec : {M : Type 1} → statement M
 walk-main-spec =

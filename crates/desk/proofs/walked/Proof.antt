@@ -33,7 +33,7 @@ spent-requires : tie.Need-spent-requires
 spent-requires c κs = let start = c .before .before .before .before .before .before .before .before .before .before .before .before .before .before in rw (fuel-is (start .pre .0) (start .pre .1)) (done-left (ends-done (c .before .root .given .1) (c .before .before .before .before .before .walk-main .ensures)))
 
 finish-requires : tie.Need-finish-requires
-finish-requires c κs = let m = ends-done (c .before .before .before .before .root .given .1) (c .before .before .before .before .before .before .before .before .walk-main .ensures) in (m .inside, m .few, m .low)
+finish-requires c κs = ends-done (c .before .before .before .before .root .given .1) (c .before .before .before .before .before .before .before .before .walk-main .ensures) .readable
 
 same-length-2 : tie.Need-same-length-2
 same-length-2 c = search needs

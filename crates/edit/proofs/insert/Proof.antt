@@ -14,7 +14,7 @@ query-requires : tie.Need-query-requires
 query-requires c κs = let a = c .before .before .before .before .args in let h = c .before .before .before .before .pre in let r = h .asks .ready in edits-query h (fits-insert (a .s .now) (a .depth) (a .scope) (a .p) (h .asks .scope))
 
 same-length : tie.Need-same-length
-same-length c = c .before .before .query .kept .1 .1 .0
+same-length c = c .before .before .query .kept .1 .0
 
 returns-2 : tie.Need-returns-2
 returns-2 c = let a = c .before .before .before .before .before .before .before .args in let h = c .before .before .before .before .before .before .before .pre in let r = h .asks .ready in insert-met (a .s .now) (a .depth) r (a .at) (a .p) (c .before .before .before .before .if1 .left) (c .before .before .query .ensures .met)

@@ -6,6 +6,7 @@ use Rattle.meaning.specs.Laws.Bools.{not-both}
 use Rattle.ties.specs.Sound.{soundOf}
 use Rattle.fit.proofs.Whole.{not-shaped, is-shaped, no-told, past-told, is-told, untied-of, loads-as}
 use borrow.Author.Needs.{needs}
+use Rattle.sheet.specs.Whole.{whole-shaped}
 use Rattle.fit.proofs.fit.Statement.{statement}
 use Rattle.fit.proofs.fit.Tie as tie
 
@@ -16,7 +17,7 @@ returns : tie.Need-returns
 returns c = not-shaped (now (c .before .before .before .args .s)) (c .before .before .before .args .told) (c .before .shapely .result) (c .before .shapely .ensures) (c .if1 .taken)
 
 lay-out-requires : tie.Need-lay-out-requires
-lay-out-requires c κs = search needs
+lay-out-requires c κs = whole-shaped (now (c .before .before .before .args .s)) (is-shaped (now (c .before .before .before .args .s)) (c .before .shapely .result) (c .before .shapely .ensures) (c .if1 .left))
 
 returns-2 : tie.Need-returns-2
 returns-2 c = no-told (now (c .before .before .before .before .before .args .s)) (c .before .before .before .before .before .args .told) (c .if2 .taken)

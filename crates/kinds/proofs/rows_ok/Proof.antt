@@ -3,16 +3,11 @@ use mathlib.Core.Path.{sym, _∙_}
 use native.Mathlib.Omega.{arith}
 use Prim.Native.Nat.{_+_, _-_}
 use Rattle.meaning.specs.Sheet.{sheetOf}
-use Rattle.meaning.specs.Shape.{forestUses}
 use Rattle.meaning.specs.Laws.Turns.{Passed, none-yet, one-more, fails, passes}
-use Rattle.kinds.proofs.RowTests.{turn, rowTest, rows-are}
+use Rattle.kinds.proofs.RowTests.{forest-turn, pool-is, rowTest, rows-are}
+use borrow.Author.Needs.{needs}
 use Rattle.kinds.proofs.rows_ok.Statement.{statement}
 use Rattle.kinds.proofs.rows_ok.Tie as tie
-use Rattle.kinds.proofs.rows_ok.Reads as reads
-use Rattle.kinds.proofs.rows_ok.Lts as lts
-use Rattle.kinds.proofs.forest_uses.Reads as forest-uses-reads
-use Rattle.kinds.proofs.row_ok.Reads as row-ok-reads
-use Rattle.sheet.proofs.forest_row.Reads as forest-row-reads
 
 abbrev Inv-loop : tie.InvT-loop
 Inv-loop s l i₀ i = Passed (rowTest s) (l .rows) i
@@ -29,20 +24,17 @@ add-i c = omega (arith, c .before .before .before .before .pre .few-rows)
 forest-row-requires : tie.Need-forest-row-requires Inv-loop μ-loop
 forest-row-requires c κs = c .before .before .before .before .pre
 
-forest-uses-requires : tie.Need-forest-uses-requires Inv-loop μ-loop
-forest-uses-requires c κs = tt
-
-row-ok-requires : tie.Need-row-ok-requires Inv-loop μ-loop
-row-ok-requires c κs = tt
+forest-ok-requires : tie.Need-forest-ok-requires Inv-loop μ-loop
+forest-ok-requires c κs = search needs
 
 returns : tie.Need-returns Inv-loop μ-loop
-returns c = sym (rows-are (c .before .before .before .before .before .before .before .before .pre) ∙ fails (rowTest (c .before .before .before .before .before .before .before .before .args .s .now)) (c .before .before .before .before .before .before .before .before .args .l .rows) (c .before .before .before .before .before .before .loop .i) (c .before .before .before .before .if1 .taken) (turn (sheetOf (c .before .before .before .before .before .before .before .before .args .s .now)) 4 forestUses (c .before .before .before .before .before .before .loop .i + 1) (c .before .before .before .forest-row .ensures) (c .before .before .forest-uses .ensures) (c .before .row-ok .ensures (c .before .before .before .before .before .before .before .before .args .s .now) (c .before .before .before .before .before .before .before .before .pre))) (c .if2 .taken))
+returns c = sym (rows-are (c .before .before .before .before .before .before .before .pre) ∙ fails (rowTest (c .before .before .before .before .before .before .before .args .s .now)) (c .before .before .before .before .before .before .before .args .l .rows) (c .before .before .before .before .before .loop .i) (c .before .before .before .if1 .taken) (forest-turn (c .before .before .before .before .before .before .before .pre) (c .before .before .before .before .before .loop .i + 1) (c .before .before .forest-row .ensures) (c .before .forest-ok .ensures (sheetOf (c .before .before .before .before .before .before .before .args .s .now)) (pool-is (c .before .before .before .before .before .before .before .pre)))) (c .if2 .taken))
 
 loop-less : tie.Need-loop-less Inv-loop μ-loop
 loop-less c = omega arith
 
 loop-again : tie.Need-loop-again Inv-loop μ-loop
-loop-again c = one-more (rowTest (c .before .before .before .before .before .before .before .before .args .s .now)) (c .before .before .before .before .before .before .before .before .args .l .rows) (c .before .before .before .before .before .before .loop .i) (c .before .before .before .before .before .before .loop .inv) (c .before .before .before .before .if1 .taken) (turn (sheetOf (c .before .before .before .before .before .before .before .before .args .s .now)) 4 forestUses (c .before .before .before .before .before .before .loop .i + 1) (c .before .before .before .forest-row .ensures) (c .before .before .forest-uses .ensures) (c .before .row-ok .ensures (c .before .before .before .before .before .before .before .before .args .s .now) (c .before .before .before .before .before .before .before .before .pre))) (c .if2 .left)
+loop-again c = one-more (rowTest (c .before .before .before .before .before .before .before .args .s .now)) (c .before .before .before .before .before .before .before .args .l .rows) (c .before .before .before .before .before .loop .i) (c .before .before .before .before .before .loop .inv) (c .before .before .before .if1 .taken) (forest-turn (c .before .before .before .before .before .before .before .pre) (c .before .before .before .before .before .loop .i + 1) (c .before .before .forest-row .ensures) (c .before .forest-ok .ensures (sheetOf (c .before .before .before .before .before .before .before .args .s .now)) (pool-is (c .before .before .before .before .before .before .before .pre)))) (c .if2 .left)
 
 returns-2 : tie.Need-returns-2 Inv-loop μ-loop
 returns-2 c = sym (rows-are (c .before .before .before .before .pre) ∙ passes (rowTest (c .before .before .before .before .args .s .now)) (c .before .before .before .before .args .l .rows) (c .before .before .loop .i) (c .before .before .loop .inv) (c .if1 .left))
@@ -56,8 +48,7 @@ rows-ok-spec =
     loop-holds
     add-i
     forest-row-requires
-    forest-uses-requires
-    row-ok-requires
+    forest-ok-requires
     returns
     loop-less
     loop-again

@@ -1,6 +1,6 @@
 -- `out::put_row` meets its contract: four words, eight stores in a row.
 use mathlib.Core.Path.{_∙_}
-use Rattle.out.specs.Written.{eight-stores}
+use Rattle.out.specs.Replaced.{eight-stores}
 use borrow.Author.Needs.{needs}
 use Rattle.out.proofs.put_row.Statement.{statement}
 use Rattle.out.proofs.put_row.Tie as tie
@@ -33,9 +33,15 @@ same-length : tie.Need-same-length
 same-length c = search needs
 
 returns : tie.Need-returns
-returns c = c .before .before .put-word4 .ensures
-    ∙ rw (c .before .before .before .before .before .before .put-word3 .ensures, c .before .before .before .before .before .before .before .before .before .before .put-word2 .ensures, c .before .before .before .before .before .before .before .before .before .before .before .before .before .before .put-word .ensures)
-    (eight-stores (c .before .before .before .before .before .before .before .before .before .before .before .before .before .before .before .before .before .args .n) (c .before .before .before .before .before .before .before .before .before .before .before .before .before .before .before .before .before .args .kind) (c .before .before .before .before .before .before .before .before .before .before .before .before .before .before .before .before .before .args .p) (c .before .before .before .before .before .before .before .before .before .before .before .before .before .before .before .before .before .args .q) (c .before .before .before .before .before .before .before .before .before .before .before .before .before .before .before .before .before .args .next) (c .before .before .before .before .before .before .before .before .before .before .before .before .before .before .before .before .before .args .result .now) (c .before .before .before .before .before .before .before .before .before .before .before .before .before .before .before .before .before .pre))
+returns c =
+    let third = c .before .before .before .before .before .before in
+    let second = third .before .before .before .before in
+    let first = second .before .before .before .before in
+    let start = first .before .before .before in
+    let a = start .args in
+    c .before .before .put-word4 .ensures
+    ∙ rw (third .put-word3 .ensures, second .put-word2 .ensures, first .put-word .ensures)
+    (eight-stores (a .n) (a .kind) (a .p) (a .q) (a .next) (a .result .now) (start .pre))
 
 pub put-row-spec : {M : Type 1} → statement M
 put-row-spec =

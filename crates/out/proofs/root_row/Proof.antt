@@ -1,5 +1,5 @@
 -- `out::root_row` meets its contract, by cases on the row.
-use Rattle.out.specs.Written.{root-some}
+use Rattle.out.specs.Trees.{root-some}
 use borrow.Author.Needs.{needs}
 use Rattle.out.proofs.root_row.Statement.{statement}
 use Rattle.out.proofs.root_row.Tie as tie

@@ -22,13 +22,13 @@ loop-holds : tie.Need-loop-holds Inv-loop μ-loop
 loop-holds c = (omega arith, some-none (c .before .args .root .now) (held-root (row3 (c .before .args .s .now) (c .before .args .at) (c .before .args .n))))
 
 add-content : tie.Need-add-content Inv-loop μ-loop
-add-content c = omega (arith, c .before .loop .inv .0, c .before .before .before .pre .0 .1)
+add-content c = omega (arith, c .before .loop .inv .0, c .before .before .before .pre .0 .few)
 
 content-requires : tie.Need-content-requires Inv-loop μ-loop
 content-requires c κs = (c .before .before .before .before .pre .0, c .before .before .loop .inv .1 .size ∙ c .before .before .before .before .pre .1)
 
 add-i : tie.Need-add-i Inv-loop μ-loop
-add-i c = omega (arith, c .before .before .before .loop .inv .0, c .before .before .before .before .before .pre .0 .1)
+add-i c = omega (arith, c .before .before .before .loop .inv .0, c .before .before .before .before .before .pre .0 .few)
 
 loop-less : tie.Need-loop-less Inv-loop μ-loop
 loop-less c = search needs

@@ -21,7 +21,7 @@ loop-holds : tie.Need-loop-holds Inv-loop μ-loop
 loop-holds c = (c .before .pre, gather-start (c .before .pre))
 
 row-requires : tie.Need-row-requires Inv-loop μ-loop
-row-requires c κs = (omega arith, omega (arith, c .before .before .loop .inv .1 .among, c .before .before .before .before .pre .small))
+row-requires c κs = (omega arith, omega (arith, c .before .before .loop .inv .1 .among, c .before .before .before .before .pre .small), omega (arith, c .before .before .loop .inv .1 .among, c .before .before .loop .inv .1 .long, c .before .before .before .before .pre .room))
 
 join-requires : tie.Need-join-requires Inv-loop μ-loop
 join-requires c κs = gather-asks (c .before .before .before .before .loop .inv .0) (c .before .before .before .before .loop .inv .1) (cellsOf (c .before .row .result)) (omega arith) (c .before .row .ensures .0)

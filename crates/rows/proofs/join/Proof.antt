@@ -23,7 +23,7 @@ returns : tie.Need-returns Inv-loop μ-loop
 returns c = λ byte. join-none byte (c .before .before .args .rows .now) (c .before .before .args .used) (c .before .before .args .a) (c .before .before .args .b) (c .before .before .pre) (c .if1 .taken)
 
 trees-requires : tie.Need-trees-requires Inv-loop μ-loop
-trees-requires c κs = record { low = λ r i j. c .before .before .before .pre .low r i (omega (arith, c .before .before .before .pre .first)); small = omega (arith, c .before .before .before .pre .first, c .before .before .before .pre .small) }
+trees-requires c κs = record { low = λ r i j. c .before .before .before .pre .low r i (omega (arith, c .before .before .before .pre .first)); small = omega (arith, c .before .before .before .pre .first, c .before .before .before .pre .small); there = omega (arith, c .before .before .before .pre .first, c .before .before .before .pre .room) }
 
 add-top : tie.Need-add-top Inv-loop μ-loop
 add-top c = omega (arith, c .before .before .before .before .pre .small, c .trees .ensures (c .before .before .before .before .pre .byte))
@@ -35,7 +35,7 @@ loop-holds : tie.Need-loop-holds Inv-loop μ-loop
 loop-holds c = join-start (c .before .before .before .before .pre .low) (c .before .before .before .before .args .used + c .trees .result) (omega (arith, c .before .before .if1 .left)) (c .before .before .before .before .pre .first) (λ byte. omega (arith, c .trees .ensures byte))
 
 row-requires : tie.Need-row-requires Inv-loop μ-loop
-row-requires c κs = (c .before .before .loop .inv .some, omega (arith, c .before .before .loop .inv .within, c .before .before .before .before .before .before .before .pre .small))
+row-requires c κs = (c .before .before .loop .inv .some, omega (arith, c .before .before .loop .inv .within, c .before .before .before .before .before .before .before .pre .small), omega (arith, c .before .before .loop .inv .within, c .before .before .loop .inv .long, c .before .before .before .before .before .before .before .pre .room))
 
 cast-push : tie.Need-cast-push Inv-loop μ-loop
 cast-push c = search needs
@@ -53,7 +53,7 @@ loop-again : tie.Need-loop-again Inv-loop μ-loop
 loop-again c = join-more (c .before .before .before .before .before .before .before .before .before .before .before .before .before .pre .low) (c .before .before .before .before .before .before .before .before .loop .inv) (cellsOf (c .before .before .before .before .before .row .result)) (c .before .before .before .before .before .row .ensures .0) (omega arith) (c .before .before .push .kept .0) (c .before .before .push .ensures .1)
 
 row-requires-2 : tie.Need-row-requires-2 Inv-loop μ-loop
-row-requires-2 c κs = (c .before .before .loop .inv .some, omega (arith, c .before .before .loop .inv .within, c .before .before .before .before .before .before .before .pre .small))
+row-requires-2 c κs = (c .before .before .loop .inv .some, omega (arith, c .before .before .loop .inv .within, c .before .before .before .before .before .before .before .pre .small), omega (arith, c .before .before .loop .inv .within, c .before .before .loop .inv .long, c .before .before .before .before .before .before .before .pre .room))
 
 cast-push-2 : tie.Need-cast-push-2 Inv-loop μ-loop
 cast-push-2 c = search needs

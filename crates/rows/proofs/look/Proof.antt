@@ -17,7 +17,7 @@ returns : tie.Need-returns
 returns c = λ byte. record { by = see-none byte (lentRow (c .before .before .args .rows .now)) (c .before .before .args .root) (c .if1 .taken) }
 
 row-requires : tie.Need-row-requires
-row-requires c κs = (omega arith, c .before .before .pre .small)
+row-requires c κs = (omega arith, c .before .before .pre .small, c .before .before .pre .there)
 
 returns-2 : tie.Need-returns-2
 returns-2 c = λ byte. record { by = see-many byte (lentRow (c .before .before .before .before .before .args .rows .now)) (c .before .before .before .before .before .args .root) (cellsOf (c .before .before .row .result)) (c .before .before .before .before .before .pre .low) (omega arith) (c .before .before .row .ensures .0) (c .if2 .taken) }

@@ -33,12 +33,12 @@ add-n : tie.Need-add-n Inv-loop μ-loop
 add-n c = omega (arith, c .before .loop .inv .0, c .before .before .before .before .pre .small)
 
 row-requires : tie.Need-row-requires Inv-loop μ-loop
-row-requires c κs = (omega arith, omega (arith, c .before .loop .inv .0, c .before .before .before .before .pre .small))
+row-requires c κs = (omega arith, omega (arith, c .before .loop .inv .0, c .before .before .before .before .pre .small), omega (arith, c .before .loop .inv .0, c .before .before .before .before .pre .there))
 
 seek-requires-2 : tie.Need-seek-requires-2 Inv-loop μ-loop
 seek-requires-2 c κs = let next = read-next (lentRow (c .before .before .before .before .before .args .rows .now)) (c .before .before .before .before .before .args .root) (c .before .before .loop .at) (cellsOf (c .row .result)) (c .before .before .before .before .before .pre .low) (omega arith) (omega (arith, c .before .before .loop .inv .0)) (c .row .ensures .0) in
     let all = c .before .before .loop .inv .0 in
-    record { low = λ r i j. c .before .before .before .before .before .pre .low r i (omega arith); small = omega (arith, c .before .before .before .before .before .pre .small) }
+    record { low = λ r i j. c .before .before .before .before .before .pre .low r i (omega arith); small = omega (arith, c .before .before .before .before .before .pre .small); there = omega (arith, c .before .before .before .before .before .pre .there) }
 
 loop-less : tie.Need-loop-less Inv-loop μ-loop
 loop-less c = omega (arith, c .seek2 .ensures .down, read-next (lentRow (c .before .before .before .before .before .before .args .rows .now)) (c .before .before .before .before .before .before .args .root) (c .before .before .before .loop .at) (cellsOf (c .before .row .result)) (c .before .before .before .before .before .before .pre .low) (omega arith) (omega (arith, c .before .before .before .loop .inv .0)) (c .before .row .ensures .0))

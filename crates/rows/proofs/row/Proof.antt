@@ -5,7 +5,7 @@ use Rattle.rows.proofs.row.Statement.{statement}
 use Rattle.rows.proofs.row.Tie as tie
 use Rattle.rows.proofs.row.Reads as reads
 use Rattle.rows.proofs.row.Lts as lts
-use Rattle.words.proofs.word_at.Reads as word-at-reads
+use Rattle.words.proofs.word_in.Reads as word-in-reads
 
 sub-i : tie.Need-sub-i
 sub-i c = search needs
@@ -13,34 +13,34 @@ sub-i c = search needs
 mul-i : tie.Need-mul-i
 mul-i c = search needs
 
-word-at-requires : tie.Need-word-at-requires
-word-at-requires c κs = search needs
+word-in-requires : tie.Need-word-in-requires
+word-in-requires c κs = search needs
 
 cast-t5 : tie.Need-cast-t5
 cast-t5 c = search needs
 
-add-word-at : tie.Need-add-word-at
-add-word-at c = search needs
+add-word-in : tie.Need-add-word-in
+add-word-in c = search needs
 
-word-at-requires-2 : tie.Need-word-at-requires-2
-word-at-requires-2 c κs = search needs
+word-in-requires-2 : tie.Need-word-in-requires-2
+word-in-requires-2 c κs = search needs
 
-add-word-at-2 : tie.Need-add-word-at-2
-add-word-at-2 c = search needs
+add-word-in-2 : tie.Need-add-word-in-2
+add-word-in-2 c = search needs
 
-word-at-requires-3 : tie.Need-word-at-requires-3
-word-at-requires-3 c κs = search needs
+word-in-requires-3 : tie.Need-word-in-requires-3
+word-in-requires-3 c κs = search needs
 
-add-word-at-3 : tie.Need-add-word-at-3
-add-word-at-3 c = search needs
+add-word-in-3 : tie.Need-add-word-in-3
+add-word-in-3 c = search needs
 
-word-at-requires-4 : tie.Need-word-at-requires-4
-word-at-requires-4 c κs = search needs
+word-in-requires-4 : tie.Need-word-in-requires-4
+word-in-requires-4 c κs = search needs
 
 returns : tie.Need-returns
 returns c = (
-  cells-eq (c .before .before .before .word-at .ensures .0) (c .before .before .word-at2 .ensures .0) (c .before .word-at3 .ensures .0) (c .word-at4 .ensures .0),
-  record { kind = c .before .before .before .word-at .ensures .1; p = c .before .before .word-at2 .ensures .1; q = c .before .word-at3 .ensures .1; r = c .word-at4 .ensures .1 },
+  cells-eq (c .before .before .before .word-in .ensures .0) (c .before .before .word-in2 .ensures .0) (c .before .word-in3 .ensures .0) (c .word-in4 .ensures .0),
+  record { kind = c .before .before .before .word-in .ensures .1; p = c .before .before .word-in2 .ensures .1; q = c .before .word-in3 .ensures .1; r = c .word-in4 .ensures .1 },
 )
 
 pub row-spec : {M : Type 1} → statement M
@@ -49,12 +49,12 @@ row-spec =
     (tie.spec
     sub-i
     mul-i
-    word-at-requires
+    word-in-requires
     cast-t5
-    add-word-at
-    word-at-requires-2
-    add-word-at-2
-    word-at-requires-3
-    add-word-at-3
-    word-at-requires-4
+    add-word-in
+    word-in-requires-2
+    add-word-in-2
+    word-in-requires-3
+    add-word-in-3
+    word-in-requires-4
     returns)

@@ -28,7 +28,7 @@ loop-holds : tie.Need-loop-holds Inv-loop μ-loop
 loop-holds c = (omega arith, λ byte. refl)
 
 row-requires : tie.Need-row-requires Inv-loop μ-loop
-row-requires c κs = (omega arith, omega (arith, c .before .loop .inv .0, c .before .before .before .pre .small))
+row-requires c κs = (omega arith, omega (arith, c .before .loop .inv .0, c .before .before .before .pre .small), omega (arith, c .before .loop .inv .0, c .before .before .before .pre .there))
 
 labelled-requires : tie.Need-labelled-requires Inv-loop μ-loop
 labelled-requires c κs = search needs

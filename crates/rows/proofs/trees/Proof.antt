@@ -25,7 +25,7 @@ add-n : tie.Need-add-n Inv-loop μ-loop
 add-n c = omega (arith, c .before .loop .inv .0, c .before .before .before .pre .small)
 
 row-requires : tie.Need-row-requires Inv-loop μ-loop
-row-requires c κs = (omega arith, omega (arith, c .before .loop .inv .0, c .before .before .before .pre .small))
+row-requires c κs = (omega arith, omega (arith, c .before .loop .inv .0, c .before .before .before .pre .small), omega (arith, c .before .loop .inv .0, c .before .before .before .pre .there))
 
 loop-less : tie.Need-loop-less Inv-loop μ-loop
 loop-less c = read-next (lentRow (c .before .before .before .before .args .rows .now)) (c .before .before .before .before .args .root) (c .before .before .loop .at) (cellsOf (c .row .result)) (c .before .before .before .before .pre .low) (omega arith) (omega (arith, c .before .before .loop .inv .0)) (c .row .ensures .0)

@@ -7,7 +7,7 @@ use Rattle.sheet.proofs.procedure_row.Statement.{statement}
 use Rattle.sheet.proofs.procedure_row.Tie as tie
 use Rattle.sheet.proofs.procedure_row.Reads as reads
 use Rattle.sheet.proofs.procedure_row.Lts as lts
-use Rattle.words.proofs.word_at.Reads as word-at-reads
+use Rattle.words.proofs.word_in.Reads as word-in-reads
 
 returns : tie.Need-returns
 returns c = five-none (c .before .before .args .s .now) (c .before .before .args .l .«procedures_at») (c .before .before .args .l .procedures) (c .before .before .args .c) (outside-low (c .before .before .args .l .procedures) (c .before .before .args .c) (omega arith)) ∙ procedure-table (c .before .before .pre) (c .before .before .args .c)
@@ -24,35 +24,35 @@ mul-i c = search needs
 add-i : tie.Need-add-i
 add-i c = search needs
 
-word-at-requires : tie.Need-word-at-requires
-word-at-requires c κs = search needs
+word-in-requires : tie.Need-word-in-requires
+word-in-requires c κs = search needs
 
-add-word-at : tie.Need-add-word-at
-add-word-at c = search needs
+add-word-in : tie.Need-add-word-in
+add-word-in c = search needs
 
-word-at-requires-2 : tie.Need-word-at-requires-2
-word-at-requires-2 c κs = search needs
+word-in-requires-2 : tie.Need-word-in-requires-2
+word-in-requires-2 c κs = search needs
 
-add-word-at-2 : tie.Need-add-word-at-2
-add-word-at-2 c = search needs
+add-word-in-2 : tie.Need-add-word-in-2
+add-word-in-2 c = search needs
 
-word-at-requires-3 : tie.Need-word-at-requires-3
-word-at-requires-3 c κs = search needs
+word-in-requires-3 : tie.Need-word-in-requires-3
+word-in-requires-3 c κs = search needs
 
-add-word-at-3 : tie.Need-add-word-at-3
-add-word-at-3 c = search needs
+add-word-in-3 : tie.Need-add-word-in-3
+add-word-in-3 c = search needs
 
-word-at-requires-4 : tie.Need-word-at-requires-4
-word-at-requires-4 c κs = search needs
+word-in-requires-4 : tie.Need-word-in-requires-4
+word-in-requires-4 c κs = search needs
 
-add-word-at-4 : tie.Need-add-word-at-4
-add-word-at-4 c = search needs
+add-word-in-4 : tie.Need-add-word-in-4
+add-word-in-4 c = search needs
 
-word-at-requires-5 : tie.Need-word-at-requires-5
-word-at-requires-5 c κs = search needs
+word-in-requires-5 : tie.Need-word-in-requires-5
+word-in-requires-5 c κs = search needs
 
 returns-3 : tie.Need-returns-3
-returns-3 c = five-some (c .before .before .before .before .before .before .before .before .before .before .args .s .now) (c .before .before .before .before .before .before .before .before .before .before .args .l .«procedures_at») (c .before .before .before .before .before .before .before .before .before .before .args .l .procedures) (c .before .before .before .before .before .before .before .before .before .before .args .c) (inside (c .before .before .before .before .before .before .before .before .before .before .args .l .procedures) (c .before .before .before .before .before .before .before .before .before .before .args .c) (λ e. omega arith) (omega arith)) (c .before .before .before .before .word-at .ensures .0) (c .before .before .before .word-at2 .ensures .0) (c .before .before .word-at3 .ensures .0) (c .before .word-at4 .ensures .0) (c .word-at5 .ensures .0) ∙ procedure-table (c .before .before .before .before .before .before .before .before .before .before .pre) (c .before .before .before .before .before .before .before .before .before .before .args .c)
+returns-3 c = five-some (c .before .before .before .before .before .before .before .before .before .before .args .s .now) (c .before .before .before .before .before .before .before .before .before .before .args .l .«procedures_at») (c .before .before .before .before .before .before .before .before .before .before .args .l .procedures) (c .before .before .before .before .before .before .before .before .before .before .args .c) (inside (c .before .before .before .before .before .before .before .before .before .before .args .l .procedures) (c .before .before .before .before .before .before .before .before .before .before .args .c) (λ e. omega arith) (omega arith)) (c .before .before .before .before .word-in .ensures .0) (c .before .before .before .word-in2 .ensures .0) (c .before .before .word-in3 .ensures .0) (c .before .word-in4 .ensures .0) (c .word-in5 .ensures .0) ∙ procedure-table (c .before .before .before .before .before .before .before .before .before .before .pre) (c .before .before .before .before .before .before .before .before .before .before .args .c)
 
 pub procedure-row-spec : {M : Type 1} → statement M
 procedure-row-spec =
@@ -63,13 +63,13 @@ procedure-row-spec =
     sub-i
     mul-i
     add-i
-    word-at-requires
-    add-word-at
-    word-at-requires-2
-    add-word-at-2
-    word-at-requires-3
-    add-word-at-3
-    word-at-requires-4
-    add-word-at-4
-    word-at-requires-5
+    word-in-requires
+    add-word-in
+    word-in-requires-2
+    add-word-in-2
+    word-in-requires-3
+    add-word-in-3
+    word-in-requires-4
+    add-word-in-4
+    word-in-requires-5
     returns-3)

@@ -8,7 +8,7 @@ use Rattle.sheet.proofs.row_of_four.Tie as tie
 use Rattle.sheet.proofs.row_of_four.Reads as reads
 use Rattle.sheet.proofs.row_of_four.Lts as lts
 use Rattle.sheet.proofs.no_row.Reads as no-row-reads
-use Rattle.words.proofs.word_at.Reads as word-at-reads
+use Rattle.words.proofs.word_in.Reads as word-in-reads
 
 no-row-requires : tie.Need-no-row-requires
 no-row-requires c κs = search needs
@@ -31,32 +31,32 @@ mul-i c = search needs
 add-i : tie.Need-add-i
 add-i c = search needs
 
-word-at-requires : tie.Need-word-at-requires
-word-at-requires c κs = search needs
+word-in-requires : tie.Need-word-in-requires
+word-in-requires c κs = search needs
 
 cast-t9 : tie.Need-cast-t9
 cast-t9 c = search needs
 
-add-word-at : tie.Need-add-word-at
-add-word-at c = search needs
+add-word-in : tie.Need-add-word-in
+add-word-in c = search needs
 
-word-at-requires-2 : tie.Need-word-at-requires-2
-word-at-requires-2 c κs = search needs
+word-in-requires-2 : tie.Need-word-in-requires-2
+word-in-requires-2 c κs = search needs
 
-add-word-at-2 : tie.Need-add-word-at-2
-add-word-at-2 c = search needs
+add-word-in-2 : tie.Need-add-word-in-2
+add-word-in-2 c = search needs
 
-word-at-requires-3 : tie.Need-word-at-requires-3
-word-at-requires-3 c κs = search needs
+word-in-requires-3 : tie.Need-word-in-requires-3
+word-in-requires-3 c κs = search needs
 
-add-word-at-3 : tie.Need-add-word-at-3
-add-word-at-3 c = search needs
+add-word-in-3 : tie.Need-add-word-in-3
+add-word-in-3 c = search needs
 
-word-at-requires-4 : tie.Need-word-at-requires-4
-word-at-requires-4 c κs = search needs
+word-in-requires-4 : tie.Need-word-in-requires-4
+word-in-requires-4 c κs = search needs
 
 returns-3 : tie.Need-returns-3
-returns-3 c = (four-some (c .before .before .before .before .before .before .before .args .s .now) (c .before .before .before .before .before .before .before .args .at) (c .before .before .before .before .before .before .before .args .n) (c .before .before .before .before .before .before .before .args .r) (inside (c .before .before .before .before .before .before .before .args .n) (c .before .before .before .before .before .before .before .args .r) (λ e. omega arith) (omega arith)) (c .before .before .before .word-at .ensures .0) (c .before .before .word-at2 .ensures .0) (c .before .word-at3 .ensures .0) (c .word-at4 .ensures .0), record { kind = c .before .before .before .word-at .ensures .1; p = c .before .before .word-at2 .ensures .1; q = c .before .word-at3 .ensures .1; r = c .word-at4 .ensures .1 })
+returns-3 c = (four-some (c .before .before .before .before .before .before .before .args .s .now) (c .before .before .before .before .before .before .before .args .at) (c .before .before .before .before .before .before .before .args .n) (c .before .before .before .before .before .before .before .args .r) (inside (c .before .before .before .before .before .before .before .args .n) (c .before .before .before .before .before .before .before .args .r) (λ e. omega arith) (omega arith)) (c .before .before .before .word-in .ensures .0) (c .before .before .word-in2 .ensures .0) (c .before .word-in3 .ensures .0) (c .word-in4 .ensures .0), record { kind = c .before .before .before .word-in .ensures .1; p = c .before .before .word-in2 .ensures .1; q = c .before .word-in3 .ensures .1; r = c .word-in4 .ensures .1 })
 
 pub row-of-four-spec : {M : Type 1} → statement M
 row-of-four-spec =
@@ -69,12 +69,12 @@ row-of-four-spec =
     sub-i
     mul-i
     add-i
-    word-at-requires
+    word-in-requires
     cast-t9
-    add-word-at
-    word-at-requires-2
-    add-word-at-2
-    word-at-requires-3
-    add-word-at-3
-    word-at-requires-4
+    add-word-in
+    word-in-requires-2
+    add-word-in-2
+    word-in-requires-3
+    add-word-in-3
+    word-in-requires-4
     returns-3)

@@ -6,13 +6,13 @@ use Rattle.tell.proofs.fit_answers.Statement.{statement}
 use Rattle.tell.proofs.fit_answers.Tie as tie
 
 abbrev Inv-loop : tie.InvT-loop
-Inv-loop s l row₀ row = Unit {0}
+Inv-loop s types row₀ row = Unit {0}
 
 abbrev μ-loop : tie.MeasureT-loop
-μ-loop s l row₀ row = l .types + 1 - row
+μ-loop s types row₀ row = types + 1 - row
 
-lay-out-requires : tie.Need-lay-out-requires Inv-loop μ-loop
-lay-out-requires c κs = search needs
+types-told-requires : tie.Need-types-told-requires Inv-loop μ-loop
+types-told-requires c κs = search needs
 
 loop-holds : tie.Need-loop-holds Inv-loop μ-loop
 loop-holds c = tt
@@ -21,7 +21,7 @@ fit-answer-requires : tie.Need-fit-answer-requires Inv-loop μ-loop
 fit-answer-requires c κs = search needs
 
 add-row : tie.Need-add-row Inv-loop μ-loop
-add-row c = omega (arith, c .before .before .before .before .lay-out .ensures .few-types)
+add-row c = omega (arith, c .before .before .before .types-told .ensures .1)
 
 loop-less : tie.Need-loop-less Inv-loop μ-loop
 loop-less c = omega arith
@@ -38,7 +38,7 @@ fit-answers-spec =
     (tie.spec
     Inv-loop
     μ-loop
-    lay-out-requires
+    types-told-requires
     loop-holds
     fit-answer-requires
     add-row

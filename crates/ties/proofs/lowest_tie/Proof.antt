@@ -5,7 +5,7 @@ use native.Mathlib.Omega.{arith}
 use lib.ListN.{length-replicate}
 use Rattle.barren.specs.Flags.{unset}
 use Rattle.places.specs.Tables.{clear-zeros}
-use Rattle.sheet.specs.Laid.{laid-at}
+use Rattle.sheet.specs.Laid.{types-lie}
 use Rattle.places.specs.Sheets.{laid-rows}
 use Rattle.ties.specs.Sound.{free-rows, says-tie}
 use Rattle.ties.proofs.lowest_tie.Statement.{statement}
@@ -19,13 +19,13 @@ use Rattle.heads.proofs.classes.Reads as classes-reads
 use Rattle.ties.proofs.tie.Reads as tie-reads
 
 firsts-requires : tie.Need-firsts-requires
-firsts-requires c κs = (laid-rows (c .before .before .before .pre .1) (c .before .before .before .pre .0), (laid-at (c .before .before .before .pre .1), (length-replicate {A = ℕ} 513 0, clear-zeros)))
+firsts-requires c κs = (laid-rows (c .before .before .before .pre .1) (c .before .before .before .pre .0), (types-lie (c .before .before .before .pre .1), (length-replicate {A = ℕ} 513 0, clear-zeros)))
 
 roots-requires : tie.Need-roots-requires
 roots-requires c κs = ((c .before .before .before .before .before .pre .1), (length-replicate {A = ℕ} 513 0, unset 513))
 
 behinds-requires : tie.Need-behinds-requires
-behinds-requires c κs = (laid-rows (c .before .before .before .before .before .before .before .before .before .before .pre .1) (c .before .before .before .before .before .before .before .before .before .before .pre .0), (laid-at (c .before .before .before .before .before .before .before .before .before .before .pre .1), (omega arith, (c .before .before .before .before .before .before .firsts .ensures, (free-rows (c .before .before .before .before .before .before .before .before .before .before .pre .1) (c .before .before .before .before .before .before .before .before .before .before .pre .0) (c .before .before .before .before .roots .ensures), clear-zeros)))))
+behinds-requires c κs = (laid-rows (c .before .before .before .before .before .before .before .before .before .before .pre .1) (c .before .before .before .before .before .before .before .before .before .before .pre .0), (types-lie (c .before .before .before .before .before .before .before .before .before .before .pre .1), (omega arith, (c .before .before .before .before .before .before .firsts .ensures, (free-rows (c .before .before .before .before .before .before .before .before .before .before .pre .1) (c .before .before .before .before .before .before .before .before .before .before .pre .0) (c .before .before .before .before .roots .ensures), clear-zeros)))))
 
 classes-requires : tie.Need-classes-requires
 classes-requires c κs = ((c .before .before .before .before .before .before .before .before .before .before .before .before .before .pre .0), ((c .before .before .before .before .before .before .before .before .before .before .before .before .before .pre .1), (refl, clear-zeros)))

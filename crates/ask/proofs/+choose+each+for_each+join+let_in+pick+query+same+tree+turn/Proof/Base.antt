@@ -42,40 +42,40 @@ use Rattle.rows.proofs.make.Reads as make-called
 use Rattle.rows.proofs.picked.Reads as picked-called
 use Rattle.rows.proofs.push.Reads as push-called
 use Rattle.rows.proofs.row.Reads as row-called
-use Rattle.sheet.proofs.query_row.Reads as query-row-called
+use Rattle.sheet.proofs.query_at.Reads as query-at-called
 use Rattle.walk.proofs.Purse.take.Reads as take-called
 use Rattle.walk.proofs.Scope.value.Reads as value-called
 use Rattle.walk.proofs.Scope.with.Reads as with-called
 
 abbrev pub μ-choose : Measures 2 choose-kinds.ps ℕ
-μ-choose κs a = 4 * (a .1 .1 .1 .1 .1 .1 .1 .1 .1 .0) + 1
+μ-choose κs a = 4 * (a .1 .1 .1 .1 .1 .1 .1 .1 .0) + 1
 
 abbrev pub μ-each : Measures 2 each-kinds.ps ℕ
-μ-each κs a = 4 * (a .1 .1 .1 .1 .1 .1 .1 .0) + 2
+μ-each κs a = 4 * (a .1 .1 .1 .1 .1 .1 .0) + 2
 
 abbrev pub μ-for-each : Measures 2 for-each-kinds.ps ℕ
-μ-for-each κs a = 4 * (a .1 .1 .1 .1 .1 .1 .1 .0) + 3
+μ-for-each κs a = 4 * (a .1 .1 .1 .1 .1 .1 .0) + 3
 
 abbrev pub μ-join : Measures 2 join-kinds.ps ℕ
-μ-join κs a = 4 * (a .1 .1 .1 .1 .1 .1 .1 .0) + 1
+μ-join κs a = 4 * (a .1 .1 .1 .1 .1 .1 .0) + 1
 
 abbrev pub μ-let-in : Measures 2 let-in-kinds.ps ℕ
-μ-let-in κs a = 4 * (a .1 .1 .1 .1 .1 .1 .1 .0) + 1
+μ-let-in κs a = 4 * (a .1 .1 .1 .1 .1 .1 .0) + 1
 
 abbrev pub μ-pick : Measures 2 pick-kinds.ps ℕ
-μ-pick κs a = 4 * (a .1 .1 .1 .1 .1 .1 .1 .0) + 1
+μ-pick κs a = 4 * (a .1 .1 .1 .1 .1 .1 .0) + 1
 
 abbrev pub μ-query : Measures 2 query-kinds.ps ℕ
-μ-query κs a = 4 * (a .1 .1 .1 .1 .1 .1 .0)
+μ-query κs a = 4 * (a .1 .1 .1 .1 .1 .0)
 
 abbrev pub μ-same : Measures 2 same-kinds.ps ℕ
-μ-same κs a = 4 * (a .1 .1 .1 .1 .1 .1 .1 .1 .0) + 1
+μ-same κs a = 4 * (a .1 .1 .1 .1 .1 .1 .1 .0) + 1
 
 abbrev pub μ-tree : Measures 2 tree-kinds.ps ℕ
-μ-tree κs a = 4 * (a .1 .1 .1 .1 .1 .1 .1 .0) + 1
+μ-tree κs a = 4 * (a .1 .1 .1 .1 .1 .1 .0) + 1
 
 abbrev pub μ-turn : Measures 2 turn-kinds.ps ℕ
-μ-turn κs a = 4 * (a .1 .1 .1 .1 .1 .1 .1 .1 .0) + 1
+μ-turn κs a = 4 * (a .1 .1 .1 .1 .1 .1 .1 .0) + 1
 
 abbrev pub choose-at : ℕ → In 2 choose-kinds.ps
 choose-at t = and 2 choose-kinds.ps (is 2 choose-kinds.ps μ-choose t) choose-reads.Pre
@@ -156,7 +156,7 @@ abbrev pub pick-claims : ℕ → pick-lts.Claims
 pick-claims t = (query-below t, query-reads.Post, picked-called.Asked, picked-called.Learnt)
 
 abbrev pub query-claims : ℕ → query-lts.Claims
-query-claims t = (take-called.Asked, take-called.Learnt, query-row-called.Asked, query-row-called.Learnt, join-below t, join-reads.Post, tree-below t, tree-reads.Post, make-called.Asked, make-called.Learnt, value-called.Asked, value-called.Learnt, let-in-below t, let-in-reads.Post, choose-below t, choose-reads.Post, same-below t, same-reads.Post, children-called.Asked, children-called.Learnt, pick-below t, pick-reads.Post, for-each-below t, for-each-reads.Post)
+query-claims t = (take-called.Asked, take-called.Learnt, query-at-called.Asked, query-at-called.Learnt, join-below t, join-reads.Post, tree-below t, tree-reads.Post, make-called.Asked, make-called.Learnt, value-called.Asked, value-called.Learnt, let-in-below t, let-in-reads.Post, choose-below t, choose-reads.Post, same-below t, same-reads.Post, children-called.Asked, children-called.Learnt, pick-below t, pick-reads.Post, for-each-below t, for-each-reads.Post)
 
 abbrev pub same-claims : ℕ → same-lts.Claims
 same-claims t = (query-below t, query-reads.Post, same-texts-called.Asked, same-texts-called.Learnt)

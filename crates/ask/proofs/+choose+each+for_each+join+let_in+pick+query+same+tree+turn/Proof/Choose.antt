@@ -22,16 +22,16 @@ enum-known-root : (t : ℕ) → lts.Need-enum-known-root (choose-claims t) (choo
 enum-known-root t c = search needs
 
 look-requires : (t : ℕ) → lts.Need-look-requires (choose-claims t) (choose-at t) choose-reads.Post
-look-requires t c κs = readable _ (roomy-after (c .before .before .before .before .before .before .before .before .before .before .pre .1 .ready .roomy) (c .before .before .before .before .before .before .query .kept .1 .1 .0) (ran-done (c .before .before .root .given .1) (c .before .before .before .before .before .before .query .ensures))) ((ran-done (c .before .before .root .given .1) (c .before .before .before .before .before .before .query .ensures)) .inside)
+look-requires t c κs = readable _ (roomy-after (c .before .before .before .before .before .before .before .before .before .before .pre .1 .ready .roomy) (c .before .before .before .before .before .before .query .kept .1 .0) (ran-done (c .before .before .root .given .1) (c .before .before .before .before .before .before .query .ensures))) ((ran-done (c .before .before .root .given .1) (c .before .before .before .before .before .before .query .ensures)) .inside)
 
 enum-known-b : (t : ℕ) → lts.Need-enum-known-b (choose-claims t) (choose-at t) choose-reads.Post
 enum-known-b t c = search needs
 
 query-requires-2 : (t : ℕ) → lts.Need-query-requires-2 (choose-claims t) (choose-at t) choose-reads.Post
-query-requires-2 t c κs = (omega (arith, c .before .before .before .before .before .before .before .before .before .before .before .before .before .before .before .before .pre .0), asks-after (c .before .before .before .before .before .before .before .before .before .before .before .before .before .before .before .before .pre .1) 0 (c .before .before .before .before .before .before .before .before .before .before .before .before .query .kept .1 .1 .0) (ran-done (c .before .before .before .before .before .before .before .before .root .given .1) (c .before .before .before .before .before .before .before .before .before .before .before .before .query .ensures)) (omega arith) ((fits-if (c .before .before .before .before .before .before .before .before .before .before .before .before .before .before .before .before .args .s .now) (c .before .before .before .before .before .before .before .before .before .before .before .before .before .before .before .before .args .depth) (c .before .before .before .before .before .before .before .before .before .before .before .before .before .before .before .before .args .scope) (c .before .before .before .before .before .before .before .before .before .before .before .before .before .before .before .before .args .p) (c .before .before .before .before .before .before .before .before .before .before .before .before .before .before .before .before .args .q) (c .before .before .before .before .before .before .before .before .before .before .before .before .before .before .before .before .args .r) (c .before .before .before .before .before .before .before .before .before .before .before .before .before .before .before .before .pre .1 .scope)) .1))
+query-requires-2 t c κs = (omega (arith, c .before .before .before .before .before .before .before .before .before .before .before .before .before .before .before .before .pre .0), asks-after (c .before .before .before .before .before .before .before .before .before .before .before .before .before .before .before .before .pre .1) 0 (c .before .before .before .before .before .before .before .before .before .before .before .before .query .kept .1 .0) (ran-done (c .before .before .before .before .before .before .before .before .root .given .1) (c .before .before .before .before .before .before .before .before .before .before .before .before .query .ensures)) (omega arith) ((fits-if (c .before .before .before .before .before .before .before .before .before .before .before .before .before .before .before .before .args .s .now) (c .before .before .before .before .before .before .before .before .before .before .before .before .before .before .before .before .args .depth) (c .before .before .before .before .before .before .before .before .before .before .before .before .before .before .before .before .args .scope) (c .before .before .before .before .before .before .before .before .before .before .before .before .before .before .before .before .args .p) (c .before .before .before .before .before .before .before .before .before .before .before .before .before .before .before .before .args .q) (c .before .before .before .before .before .before .before .before .before .before .before .before .before .before .before .before .args .r) (c .before .before .before .before .before .before .before .before .before .before .before .before .before .before .before .before .pre .1 .scope)) .1))
 
 query-requires-3 : (t : ℕ) → lts.Need-query-requires-3 (choose-claims t) (choose-at t) choose-reads.Post
-query-requires-3 t c κs = (omega (arith, c .before .before .before .before .before .before .before .before .before .before .before .before .before .before .before .before .pre .0), asks-after (c .before .before .before .before .before .before .before .before .before .before .before .before .before .before .before .before .pre .1) 0 (c .before .before .before .before .before .before .before .before .before .before .before .before .query .kept .1 .1 .0) (ran-done (c .before .before .before .before .before .before .before .before .root .given .1) (c .before .before .before .before .before .before .before .before .before .before .before .before .query .ensures)) (omega arith) ((fits-if (c .before .before .before .before .before .before .before .before .before .before .before .before .before .before .before .before .args .s .now) (c .before .before .before .before .before .before .before .before .before .before .before .before .before .before .before .before .args .depth) (c .before .before .before .before .before .before .before .before .before .before .before .before .before .before .before .before .args .scope) (c .before .before .before .before .before .before .before .before .before .before .before .before .before .before .before .before .args .p) (c .before .before .before .before .before .before .before .before .before .before .before .before .before .before .before .before .args .q) (c .before .before .before .before .before .before .before .before .before .before .before .before .before .before .before .before .args .r) (c .before .before .before .before .before .before .before .before .before .before .before .before .before .before .before .before .pre .1 .scope)) .2))
+query-requires-3 t c κs = (omega (arith, c .before .before .before .before .before .before .before .before .before .before .before .before .before .before .before .before .pre .0), asks-after (c .before .before .before .before .before .before .before .before .before .before .before .before .before .before .before .before .pre .1) 0 (c .before .before .before .before .before .before .before .before .before .before .before .before .query .kept .1 .0) (ran-done (c .before .before .before .before .before .before .before .before .root .given .1) (c .before .before .before .before .before .before .before .before .before .before .before .before .query .ensures)) (omega arith) ((fits-if (c .before .before .before .before .before .before .before .before .before .before .before .before .before .before .before .before .args .s .now) (c .before .before .before .before .before .before .before .before .before .before .before .before .before .before .before .before .args .depth) (c .before .before .before .before .before .before .before .before .before .before .before .before .before .before .before .before .args .scope) (c .before .before .before .before .before .before .before .before .before .before .before .before .before .before .before .before .args .p) (c .before .before .before .before .before .before .before .before .before .before .before .before .before .before .before .before .args .q) (c .before .before .before .before .before .before .before .before .before .before .before .before .before .before .before .before .args .r) (c .before .before .before .before .before .before .before .before .before .before .before .before .before .before .before .before .pre .1 .scope)) .2))
 
 enum-told : (t : ℕ) → lts.Need-enum-told (choose-claims t) (choose-at t) choose-reads.Post
 enum-told t c = search needs
@@ -46,47 +46,47 @@ enum-told-4 : (t : ℕ) → lts.Need-enum-told-4 (choose-claims t) (choose-at t)
 enum-told-4 t c = search needs
 
 same-length : (t : ℕ) → lts.Need-same-length (choose-claims t) (choose-at t) choose-reads.Post
-same-length t c = (c .before .before .before .before .before .query .kept .1 .1 .0)
+same-length t c = (c .before .before .before .before .before .query .kept .1 .0)
 
 returns : (t : ℕ) → lts.Need-returns (choose-claims t) (choose-at t) choose-reads.Post
 unfolding query-of
 returns t c = met-stop (stop-then _ (ran-not (c .before .why .given .1) (c .before .before .before .before .before .query .ensures)))
 
 same-length-2 : (t : ℕ) → lts.Need-same-length-2 (choose-claims t) (choose-at t) choose-reads.Post
-same-length-2 t c = c .before .before .query2 .kept .1 .1 .0 ∙ (c .before .before .before .before .before .before .before .before .before .before .before .before .before .before .before .query .kept .1 .1 .0)
+same-length-2 t c = c .before .before .query2 .kept .1 .0 ∙ (c .before .before .before .before .before .before .before .before .before .before .before .before .before .before .before .query .kept .1 .0)
 
 returns-2 : (t : ℕ) → lts.Need-returns-2 (choose-claims t) (choose-at t) choose-reads.Post
 returns-2 t c = choose-yes (c .before .before .before .before .before .before .before .before .before .before .before .before .before .before .before .before .before .before .before .args .s .now) (c .before .before .before .before .before .before .before .before .before .before .before .before .before .before .before .before .before .before .before .args .depth) (c .before .before .before .before .before .before .before .before .before .before .before .before .before .before .before .before .before .before .before .pre .1 .ready) (c .before .before .before .before .before .before .before .before .before .before .before .before .before .before .before .before .before .before .before .args .p) (ran-done (c .before .before .before .before .before .before .before .before .before .before .before .root .given .1) (c .before .before .before .before .before .before .before .before .before .before .before .before .before .before .before .query .ensures)) (c .before .before .before .before .before .before .before .before .before .before .before .before .before .before .before .before .before .before .before .args .at) (c .before .before .before .before .before .before .before .before .before .before .before .before .before .before .before .before .before .before .before .args .q) (c .before .before .before .before .before .before .before .before .before .before .before .before .before .before .before .before .before .before .before .args .r) (sees-bool (c .before .before .before .before .before .before .b .given .1) (c .before .before .before .before .before .before .before .before .look .ensures (pool (c .before .before .before .before .before .before .before .before .before .before .before .before .before .before .before .before .before .before .before .args .s .now)))) (c .before .before .before .before .if1 .taken) (c .before .before .query2 .ensures .met)
 
 same-length-3 : (t : ℕ) → lts.Need-same-length-3 (choose-claims t) (choose-at t) choose-reads.Post
-same-length-3 t c = c .before .before .query3 .kept .1 .1 .0 ∙ (c .before .before .before .before .before .before .before .before .before .before .before .before .before .before .before .query .kept .1 .1 .0)
+same-length-3 t c = c .before .before .query3 .kept .1 .0 ∙ (c .before .before .before .before .before .before .before .before .before .before .before .before .before .before .before .query .kept .1 .0)
 
 returns-3 : (t : ℕ) → lts.Need-returns-3 (choose-claims t) (choose-at t) choose-reads.Post
 returns-3 t c = choose-no (c .before .before .before .before .before .before .before .before .before .before .before .before .before .before .before .before .before .before .before .args .s .now) (c .before .before .before .before .before .before .before .before .before .before .before .before .before .before .before .before .before .before .before .args .depth) (c .before .before .before .before .before .before .before .before .before .before .before .before .before .before .before .before .before .before .before .pre .1 .ready) (c .before .before .before .before .before .before .before .before .before .before .before .before .before .before .before .before .before .before .before .args .p) (ran-done (c .before .before .before .before .before .before .before .before .before .before .before .root .given .1) (c .before .before .before .before .before .before .before .before .before .before .before .before .before .before .before .query .ensures)) (c .before .before .before .before .before .before .before .before .before .before .before .before .before .before .before .before .before .before .before .args .at) (c .before .before .before .before .before .before .before .before .before .before .before .before .before .before .before .before .before .before .before .args .q) (c .before .before .before .before .before .before .before .before .before .before .before .before .before .before .before .before .before .before .before .args .r) (sees-bool (c .before .before .before .before .before .before .b .given .1) (c .before .before .before .before .before .before .before .before .look .ensures (pool (c .before .before .before .before .before .before .before .before .before .before .before .before .before .before .before .before .before .before .before .args .s .now)))) (c .before .before .before .before .if1 .left) (c .before .before .query3 .ensures .met)
 
 same-length-4 : (t : ℕ) → lts.Need-same-length-4 (choose-claims t) (choose-at t) choose-reads.Post
-same-length-4 t c = (c .before .before .before .before .before .before .before .before .before .query .kept .1 .1 .0)
+same-length-4 t c = (c .before .before .before .before .before .before .before .before .before .query .kept .1 .0)
 
 returns-4 : (t : ℕ) → lts.Need-returns-4 (choose-claims t) (choose-at t) choose-reads.Post
 unfolding branch
 returns-4 t c = choose-stuck (c .before .before .before .before .before .before .before .before .before .before .before .before .before .args .s .now) (c .before .before .before .before .before .before .before .before .before .before .before .before .before .args .depth) (c .before .before .before .before .before .before .before .before .before .before .before .before .before .pre .1 .ready) (c .before .before .before .before .before .before .before .before .before .before .before .before .before .args .p) (ran-done (c .before .before .before .before .before .root .given .1) (c .before .before .before .before .before .before .before .before .before .query .ensures)) (c .before .before .before .before .before .before .before .before .before .before .before .before .before .args .at) (c .before .before .before .before .before .before .before .before .before .before .before .before .before .args .q) (c .before .before .before .before .before .before .before .before .before .before .before .before .before .args .r) (sees-nothing (c .enum-told .given .1) (c .before .before .look .ensures (pool (c .before .before .before .before .before .before .before .before .before .before .before .before .before .args .s .now)))) (λ y z. refl) _ refl
 
 same-length-5 : (t : ℕ) → lts.Need-same-length-5 (choose-claims t) (choose-at t) choose-reads.Post
-same-length-5 t c = (c .before .before .before .before .before .before .before .before .before .query .kept .1 .1 .0)
+same-length-5 t c = (c .before .before .before .before .before .before .before .before .before .query .kept .1 .0)
 
 returns-5 : (t : ℕ) → lts.Need-returns-5 (choose-claims t) (choose-at t) choose-reads.Post
 unfolding branch
 returns-5 t c = choose-stuck (c .before .before .before .before .before .before .before .before .before .before .before .before .before .args .s .now) (c .before .before .before .before .before .before .before .before .before .before .before .before .before .args .depth) (c .before .before .before .before .before .before .before .before .before .before .before .before .before .pre .1 .ready) (c .before .before .before .before .before .before .before .before .before .before .before .before .before .args .p) (ran-done (c .before .before .before .before .before .root .given .1) (c .before .before .before .before .before .before .before .before .before .query .ensures)) (c .before .before .before .before .before .before .before .before .before .before .before .before .before .args .at) (c .before .before .before .before .before .before .before .before .before .before .before .before .before .args .q) (c .before .before .before .before .before .before .before .before .before .before .before .before .before .args .r) (sees-many (c .enum-told2 .given .1) (c .before .before .look .ensures (pool (c .before .before .before .before .before .before .before .before .before .before .before .before .before .args .s .now)))) (λ y z. refl) _ refl
 
 same-length-6 : (t : ℕ) → lts.Need-same-length-6 (choose-claims t) (choose-at t) choose-reads.Post
-same-length-6 t c = (c .before .before .before .before .before .before .before .before .before .query .kept .1 .1 .0)
+same-length-6 t c = (c .before .before .before .before .before .before .before .before .before .query .kept .1 .0)
 
 returns-6 : (t : ℕ) → lts.Need-returns-6 (choose-claims t) (choose-at t) choose-reads.Post
 unfolding branch
 returns-6 t c = choose-stuck (c .before .before .before .before .before .before .before .before .before .before .before .before .before .args .s .now) (c .before .before .before .before .before .before .before .before .before .before .before .before .before .args .depth) (c .before .before .before .before .before .before .before .before .before .before .before .before .before .pre .1 .ready) (c .before .before .before .before .before .before .before .before .before .before .before .before .before .args .p) (ran-done (c .before .before .before .before .before .root .given .1) (c .before .before .before .before .before .before .before .before .before .query .ensures)) (c .before .before .before .before .before .before .before .before .before .before .before .before .before .args .at) (c .before .before .before .before .before .before .before .before .before .before .before .before .before .args .q) (c .before .before .before .before .before .before .before .before .before .before .before .before .before .args .r) (sees-text (c .enum-told3 .given .1) (c .before .before .look .ensures (pool (c .before .before .before .before .before .before .before .before .before .before .before .before .before .args .s .now))) .is) (λ y z. refl) _ refl
 
 same-length-7 : (t : ℕ) → lts.Need-same-length-7 (choose-claims t) (choose-at t) choose-reads.Post
-same-length-7 t c = (c .before .before .before .before .before .before .before .before .before .query .kept .1 .1 .0)
+same-length-7 t c = (c .before .before .before .before .before .before .before .before .before .query .kept .1 .0)
 
 returns-7 : (t : ℕ) → lts.Need-returns-7 (choose-claims t) (choose-at t) choose-reads.Post
 unfolding branch

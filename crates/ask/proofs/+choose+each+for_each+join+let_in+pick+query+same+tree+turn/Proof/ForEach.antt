@@ -21,17 +21,17 @@ enum-known-root : (t : ℕ) → lts.Need-enum-known-root (for-each-claims t) (fo
 enum-known-root t c = search needs
 
 each-requires : (t : ℕ) → lts.Need-each-requires (for-each-claims t) (for-each-at t) for-each-reads.Post
-each-requires t c κs = (omega (arith, c .before .before .before .before .before .before .before .before .before .before .pre .0), asks-after (c .before .before .before .before .before .before .before .before .before .before .pre .1) _ (c .before .before .before .before .before .before .query .kept .1 .1 .0) (ran-done (c .before .before .root .given .1) (c .before .before .before .before .before .before .query .ensures)) ((ran-done (c .before .before .root .given .1) (c .before .before .before .before .before .before .query .ensures)) .inside) ((fits-for (c .before .before .before .before .before .before .before .before .before .before .args .s .now) (c .before .before .before .before .before .before .before .before .before .before .args .depth) (c .before .before .before .before .before .before .before .before .before .before .args .scope) (c .before .before .before .before .before .before .before .before .before .before .args .p) (c .before .before .before .before .before .before .before .before .before .before .args .q) (c .before .before .before .before .before .before .before .before .before .before .pre .1 .scope)) .1))
+each-requires t c κs = (omega (arith, c .before .before .before .before .before .before .before .before .before .before .pre .0), asks-after (c .before .before .before .before .before .before .before .before .before .before .pre .1) _ (c .before .before .before .before .before .before .query .kept .1 .0) (ran-done (c .before .before .root .given .1) (c .before .before .before .before .before .before .query .ensures)) ((ran-done (c .before .before .root .given .1) (c .before .before .before .before .before .before .query .ensures)) .inside) ((fits-for (c .before .before .before .before .before .before .before .before .before .before .args .s .now) (c .before .before .before .before .before .before .before .before .before .before .args .depth) (c .before .before .before .before .before .before .before .before .before .before .args .scope) (c .before .before .before .before .before .before .before .before .before .before .args .p) (c .before .before .before .before .before .before .before .before .before .before .args .q) (c .before .before .before .before .before .before .before .before .before .before .pre .1 .scope)) .1))
 
 same-length : (t : ℕ) → lts.Need-same-length (for-each-claims t) (for-each-at t) for-each-reads.Post
-same-length t c = (c .before .before .before .before .before .query .kept .1 .1 .0)
+same-length t c = (c .before .before .before .before .before .query .kept .1 .0)
 
 returns : (t : ℕ) → lts.Need-returns (for-each-claims t) (for-each-at t) for-each-reads.Post
 unfolding query-of
 returns t c = met-stop (stop-then _ (ran-not (c .before .why .given .1) (c .before .before .before .before .before .query .ensures)))
 
 same-length-2 : (t : ℕ) → lts.Need-same-length-2 (for-each-claims t) (for-each-at t) for-each-reads.Post
-same-length-2 t c = c .before .before .each .kept .1 .1 .0 ∙ (c .before .before .before .before .before .before .before .before .before .query .kept .1 .1 .0)
+same-length-2 t c = c .before .before .each .kept .1 .0 ∙ (c .before .before .before .before .before .before .before .before .before .query .kept .1 .0)
 
 returns-2 : (t : ℕ) → lts.Need-returns-2 (for-each-claims t) (for-each-at t) for-each-reads.Post
 returns-2 t c = for-met (c .before .before .before .before .before .before .before .before .before .before .before .before .before .args .s .now) (c .before .before .before .before .before .before .before .before .before .before .before .before .before .args .depth) (c .before .before .before .before .before .before .before .before .before .before .before .before .before .pre .1 .ready) (c .before .before .before .before .before .before .before .before .before .before .before .before .before .args .p) (ran-done (c .before .before .before .before .before .root .given .1) (c .before .before .before .before .before .before .before .before .before .query .ensures)) (c .before .before .before .before .before .before .before .before .before .before .before .before .before .args .q) (c .before .before .each .ensures)

@@ -22,7 +22,7 @@ enum-known-x : (t : ℕ) → lts.Need-enum-known-x (join-claims t) (join-at t) j
 enum-known-x t c = search needs
 
 query-requires-2 : (t : ℕ) → lts.Need-query-requires-2 (join-claims t) (join-at t) join-reads.Post
-query-requires-2 t c κs = (omega (arith, c .before .before .before .before .before .before .before .before .before .before .pre .0), asks-after (c .before .before .before .before .before .before .before .before .before .before .pre .1) 0 (c .before .before .before .before .before .before .query .kept .1 .1 .0) (ran-done (c .before .before .x .given .1) (c .before .before .before .before .before .before .query .ensures)) (omega arith) ((fits-join (c .before .before .before .before .before .before .before .before .before .before .args .s .now) (c .before .before .before .before .before .before .before .before .before .before .args .depth) (c .before .before .before .before .before .before .before .before .before .before .args .scope) (c .before .before .before .before .before .before .before .before .before .before .args .p) (c .before .before .before .before .before .before .before .before .before .before .args .q) (c .before .before .before .before .before .before .before .before .before .before .pre .1 .scope)) .1))
+query-requires-2 t c κs = (omega (arith, c .before .before .before .before .before .before .before .before .before .before .pre .0), asks-after (c .before .before .before .before .before .before .before .before .before .before .pre .1) 0 (c .before .before .before .before .before .before .query .kept .1 .0) (ran-done (c .before .before .x .given .1) (c .before .before .before .before .before .before .query .ensures)) (omega arith) ((fits-join (c .before .before .before .before .before .before .before .before .before .before .args .s .now) (c .before .before .before .before .before .before .before .before .before .before .args .depth) (c .before .before .before .before .before .before .before .before .before .before .args .scope) (c .before .before .before .before .before .before .before .before .before .before .args .p) (c .before .before .before .before .before .before .before .before .before .before .args .q) (c .before .before .before .before .before .before .before .before .before .before .pre .1 .scope)) .1))
 
 enum-known-why-2 : (t : ℕ) → lts.Need-enum-known-why-2 (join-claims t) (join-at t) join-reads.Post
 enum-known-why-2 t c = search needs
@@ -31,24 +31,24 @@ enum-known-y : (t : ℕ) → lts.Need-enum-known-y (join-claims t) (join-at t) j
 enum-known-y t c = search needs
 
 front-requires : (t : ℕ) → lts.Need-front-requires (join-claims t) (join-at t) join-reads.Post
-front-requires t c κs = (roomy-after (roomy-after (c .before .before .before .before .before .before .before .before .before .before .before .before .before .before .before .before .before .pre .1 .ready .roomy) (c .before .before .before .before .before .before .before .before .before .before .before .before .before .query .kept .1 .1 .0) (ran-done (c .before .before .before .before .before .before .before .before .before .x .given .1) (c .before .before .before .before .before .before .before .before .before .before .before .before .before .query .ensures))) (c .before .before .before .before .before .before .query2 .kept .1 .1 .0) (ran-done (c .before .before .y .given .1) (c .before .before .before .before .before .before .query2 .ensures)), omega (arith, (ran-done (c .before .before .before .before .before .before .before .before .before .x .given .1) (c .before .before .before .before .before .before .before .before .before .before .before .before .before .query .ensures)) .inside, (ran-done (c .before .before .y .given .1) (c .before .before .before .before .before .before .query2 .ensures)) .grown), (ran-done (c .before .before .y .given .1) (c .before .before .before .before .before .before .query2 .ensures)) .inside)
+front-requires t c κs = (roomy-after (roomy-after (c .before .before .before .before .before .before .before .before .before .before .before .before .before .before .before .before .before .pre .1 .ready .roomy) (c .before .before .before .before .before .before .before .before .before .before .before .before .before .query .kept .1 .0) (ran-done (c .before .before .before .before .before .before .before .before .before .x .given .1) (c .before .before .before .before .before .before .before .before .before .before .before .before .before .query .ensures))) (c .before .before .before .before .before .before .query2 .kept .1 .0) (ran-done (c .before .before .y .given .1) (c .before .before .before .before .before .before .query2 .ensures)), omega (arith, (ran-done (c .before .before .before .before .before .before .before .before .before .x .given .1) (c .before .before .before .before .before .before .before .before .before .before .before .before .before .query .ensures)) .inside, (ran-done (c .before .before .y .given .1) (c .before .before .before .before .before .before .query2 .ensures)) .grown), (ran-done (c .before .before .y .given .1) (c .before .before .before .before .before .before .query2 .ensures)) .inside)
 
 same-length : (t : ℕ) → lts.Need-same-length (join-claims t) (join-at t) join-reads.Post
-same-length t c = (c .before .before .before .before .before .query .kept .1 .1 .0)
+same-length t c = (c .before .before .before .before .before .query .kept .1 .0)
 
 returns : (t : ℕ) → lts.Need-returns (join-claims t) (join-at t) join-reads.Post
 unfolding query-of
 returns t c = met-stop (stop-then _ (ran-not (c .before .why .given .1) (c .before .before .before .before .before .query .ensures)))
 
 same-length-2 : (t : ℕ) → lts.Need-same-length-2 (join-claims t) (join-at t) join-reads.Post
-same-length-2 t c = c .before .before .before .before .before .query2 .kept .1 .1 .0 ∙ (c .before .before .before .before .before .before .before .before .before .before .before .before .query .kept .1 .1 .0)
+same-length-2 t c = c .before .before .before .before .before .query2 .kept .1 .0 ∙ (c .before .before .before .before .before .before .before .before .before .before .before .before .query .kept .1 .0)
 
 returns-2 : (t : ℕ) → lts.Need-returns-2 (join-claims t) (join-at t) join-reads.Post
 unfolding query-of
 returns-2 t c = met-stop (both-stop (c .before .before .before .before .before .before .before .before .before .before .before .before .before .before .before .before .args .s .now) (c .before .before .before .before .before .before .before .before .before .before .before .before .before .before .before .before .args .depth) (c .before .before .before .before .before .before .before .before .before .before .before .before .before .before .before .before .pre .1 .ready) (c .before .before .before .before .before .before .before .before .before .before .before .before .before .before .before .before .args .p) (ran-done (c .before .before .before .before .before .before .before .before .x .given .1) (c .before .before .before .before .before .before .before .before .before .before .before .before .query .ensures)) (c .before .before .before .before .before .before .before .before .before .before .before .before .before .before .before .before .args .q) fronted (ran-not (c .before .why2 .given .1) (c .before .before .before .before .before .query2 .ensures)))
 
 same-length-3 : (t : ℕ) → lts.Need-same-length-3 (join-claims t) (join-at t) join-reads.Post
-same-length-3 t c = c .before .before .front .kept .0 ∙ c .before .before .before .before .before .before .before .before .before .query2 .kept .1 .1 .0 ∙ (c .before .before .before .before .before .before .before .before .before .before .before .before .before .before .before .before .query .kept .1 .1 .0)
+same-length-3 t c = c .before .before .front .kept .0 ∙ c .before .before .before .before .before .before .before .before .before .query2 .kept .1 .0 ∙ (c .before .before .before .before .before .before .before .before .before .before .before .before .before .before .before .before .query .kept .1 .0)
 
 returns-3 : (t : ℕ) → lts.Need-returns-3 (join-claims t) (join-at t) join-reads.Post
 unfolding query-of

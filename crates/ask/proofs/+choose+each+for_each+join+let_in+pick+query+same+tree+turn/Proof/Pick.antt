@@ -20,17 +20,17 @@ enum-known-root : (t : ℕ) → lts.Need-enum-known-root (pick-claims t) (pick-a
 enum-known-root t c = search needs
 
 picked-requires : (t : ℕ) → lts.Need-picked-requires (pick-claims t) (pick-at t) pick-reads.Post
-picked-requires t c κs = (roomy-after (c .before .before .before .before .before .before .before .before .before .before .pre .1 .ready .roomy) (c .before .before .before .before .before .before .query .kept .1 .1 .0) (ran-done (c .before .before .root .given .1) (c .before .before .before .before .before .before .query .ensures)), (ran-done (c .before .before .root .given .1) (c .before .before .before .before .before .before .query .ensures)) .inside)
+picked-requires t c κs = (roomy-after (c .before .before .before .before .before .before .before .before .before .before .pre .1 .ready .roomy) (c .before .before .before .before .before .before .query .kept .1 .0) (ran-done (c .before .before .root .given .1) (c .before .before .before .before .before .before .query .ensures)), (ran-done (c .before .before .root .given .1) (c .before .before .before .before .before .before .query .ensures)) .inside)
 
 same-length : (t : ℕ) → lts.Need-same-length (pick-claims t) (pick-at t) pick-reads.Post
-same-length t c = (c .before .before .before .before .before .query .kept .1 .1 .0)
+same-length t c = (c .before .before .before .before .before .query .kept .1 .0)
 
 returns : (t : ℕ) → lts.Need-returns (pick-claims t) (pick-at t) pick-reads.Post
 unfolding query-of
 returns t c = met-stop (stop-then _ (ran-not (c .before .why .given .1) (c .before .before .before .before .before .query .ensures)))
 
 same-length-2 : (t : ℕ) → lts.Need-same-length-2 (pick-claims t) (pick-at t) pick-reads.Post
-same-length-2 t c = c .before .before .picked .kept .0 ∙ (c .before .before .before .before .before .before .before .before .before .query .kept .1 .1 .0)
+same-length-2 t c = c .before .before .picked .kept .0 ∙ (c .before .before .before .before .before .before .before .before .before .query .kept .1 .0)
 
 returns-2 : (t : ℕ) → lts.Need-returns-2 (pick-claims t) (pick-at t) pick-reads.Post
 unfolding query-of

@@ -23,7 +23,7 @@ enum-known-x : (t : ℕ) → lts.Need-enum-known-x (same-claims t) (same-at t) s
 enum-known-x t c = search needs
 
 query-requires-2 : (t : ℕ) → lts.Need-query-requires-2 (same-claims t) (same-at t) same-reads.Post
-query-requires-2 t c κs = (omega (arith, c .before .before .before .before .before .before .before .before .before .before .pre .0), asks-after (c .before .before .before .before .before .before .before .before .before .before .pre .1) 0 (c .before .before .before .before .before .before .query .kept .1 .1 .0) (ran-done (c .before .before .x .given .1) (c .before .before .before .before .before .before .query .ensures)) (omega arith) ((fits-same (c .before .before .before .before .before .before .before .before .before .before .args .s .now) (c .before .before .before .before .before .before .before .before .before .before .args .depth) (c .before .before .before .before .before .before .before .before .before .before .args .scope) (c .before .before .before .before .before .before .before .before .before .before .args .p) (c .before .before .before .before .before .before .before .before .before .before .args .q) (c .before .before .before .before .before .before .before .before .before .before .pre .1 .scope)) .1))
+query-requires-2 t c κs = (omega (arith, c .before .before .before .before .before .before .before .before .before .before .pre .0), asks-after (c .before .before .before .before .before .before .before .before .before .before .pre .1) 0 (c .before .before .before .before .before .before .query .kept .1 .0) (ran-done (c .before .before .x .given .1) (c .before .before .before .before .before .before .query .ensures)) (omega arith) ((fits-same (c .before .before .before .before .before .before .before .before .before .before .args .s .now) (c .before .before .before .before .before .before .before .before .before .before .args .depth) (c .before .before .before .before .before .before .before .before .before .before .args .scope) (c .before .before .before .before .before .before .before .before .before .before .args .p) (c .before .before .before .before .before .before .before .before .before .before .args .q) (c .before .before .before .before .before .before .before .before .before .before .pre .1 .scope)) .1))
 
 enum-known-why-2 : (t : ℕ) → lts.Need-enum-known-why-2 (same-claims t) (same-at t) same-reads.Post
 enum-known-why-2 t c = search needs
@@ -32,24 +32,24 @@ enum-known-y : (t : ℕ) → lts.Need-enum-known-y (same-claims t) (same-at t) s
 enum-known-y t c = search needs
 
 same-texts-requires : (t : ℕ) → lts.Need-same-texts-requires (same-claims t) (same-at t) same-reads.Post
-same-texts-requires t c κs = (c .before .before .before .before .before .before .before .before .before .before .before .before .before .before .before .before .before .pre .1 .laid, roomy-after (roomy-after (c .before .before .before .before .before .before .before .before .before .before .before .before .before .before .before .before .before .pre .1 .ready .roomy) (c .before .before .before .before .before .before .before .before .before .before .before .before .before .query .kept .1 .1 .0) (ran-done (c .before .before .before .before .before .before .before .before .before .x .given .1) (c .before .before .before .before .before .before .before .before .before .before .before .before .before .query .ensures))) (c .before .before .before .before .before .before .query2 .kept .1 .1 .0) (ran-done (c .before .before .y .given .1) (c .before .before .before .before .before .before .query2 .ensures)), omega (arith, (ran-done (c .before .before .before .before .before .before .before .before .before .x .given .1) (c .before .before .before .before .before .before .before .before .before .before .before .before .before .query .ensures)) .inside, (ran-done (c .before .before .y .given .1) (c .before .before .before .before .before .before .query2 .ensures)) .grown), (ran-done (c .before .before .y .given .1) (c .before .before .before .before .before .before .query2 .ensures)) .inside)
+same-texts-requires t c κs = (roomy-after (roomy-after (c .before .before .before .before .before .before .before .before .before .before .before .before .before .before .before .before .before .pre .1 .ready .roomy) (c .before .before .before .before .before .before .before .before .before .before .before .before .before .query .kept .1 .0) (ran-done (c .before .before .before .before .before .before .before .before .before .x .given .1) (c .before .before .before .before .before .before .before .before .before .before .before .before .before .query .ensures))) (c .before .before .before .before .before .before .query2 .kept .1 .0) (ran-done (c .before .before .y .given .1) (c .before .before .before .before .before .before .query2 .ensures)), omega (arith, (ran-done (c .before .before .before .before .before .before .before .before .before .x .given .1) (c .before .before .before .before .before .before .before .before .before .before .before .before .before .query .ensures)) .inside, (ran-done (c .before .before .y .given .1) (c .before .before .before .before .before .before .query2 .ensures)) .grown), (ran-done (c .before .before .y .given .1) (c .before .before .before .before .before .before .query2 .ensures)) .inside)
 
 same-length : (t : ℕ) → lts.Need-same-length (same-claims t) (same-at t) same-reads.Post
-same-length t c = (c .before .before .before .before .before .query .kept .1 .1 .0)
+same-length t c = (c .before .before .before .before .before .query .kept .1 .0)
 
 returns : (t : ℕ) → lts.Need-returns (same-claims t) (same-at t) same-reads.Post
 unfolding query-of
 returns t c = met-stop (stop-then _ (ran-not (c .before .why .given .1) (c .before .before .before .before .before .query .ensures)))
 
 same-length-2 : (t : ℕ) → lts.Need-same-length-2 (same-claims t) (same-at t) same-reads.Post
-same-length-2 t c = c .before .before .before .before .before .query2 .kept .1 .1 .0 ∙ (c .before .before .before .before .before .before .before .before .before .before .before .before .query .kept .1 .1 .0)
+same-length-2 t c = c .before .before .before .before .before .query2 .kept .1 .0 ∙ (c .before .before .before .before .before .before .before .before .before .before .before .before .query .kept .1 .0)
 
 returns-2 : (t : ℕ) → lts.Need-returns-2 (same-claims t) (same-at t) same-reads.Post
 unfolding query-of
 returns-2 t c = met-stop (both-stop (c .before .before .before .before .before .before .before .before .before .before .before .before .before .before .before .before .args .s .now) (c .before .before .before .before .before .before .before .before .before .before .before .before .before .before .before .before .args .depth) (c .before .before .before .before .before .before .before .before .before .before .before .before .before .before .before .before .pre .1 .ready) (c .before .before .before .before .before .before .before .before .before .before .before .before .before .before .before .before .args .p) (ran-done (c .before .before .before .before .before .before .before .before .x .given .1) (c .before .before .before .before .before .before .before .before .before .before .before .before .query .ensures)) (c .before .before .before .before .before .before .before .before .before .before .before .before .before .before .before .before .args .q) (λ (x y : Forest). same-texts (of-query (c .before .before .before .before .before .before .before .before .before .before .before .before .before .before .before .before .args .at)) (seen x) (seen y)) (ran-not (c .before .why2 .given .1) (c .before .before .before .before .before .query2 .ensures)))
 
 same-length-3 : (t : ℕ) → lts.Need-same-length-3 (same-claims t) (same-at t) same-reads.Post
-same-length-3 t c = c .before .before .same-texts .kept .1 .1 .0 ∙ c .before .before .before .before .before .before .before .before .before .query2 .kept .1 .1 .0 ∙ (c .before .before .before .before .before .before .before .before .before .before .before .before .before .before .before .before .query .kept .1 .1 .0)
+same-length-3 t c = c .before .before .same-texts .kept .1 .0 ∙ c .before .before .before .before .before .before .before .before .before .query2 .kept .1 .0 ∙ (c .before .before .before .before .before .before .before .before .before .before .before .before .before .before .before .before .query .kept .1 .0)
 
 returns-3 : (t : ℕ) → lts.Need-returns-3 (same-claims t) (same-at t) same-reads.Post
 unfolding query-of

@@ -21,17 +21,17 @@ enum-known-root : (t : ℕ) → lts.Need-enum-known-root (tree-claims t) (tree-a
 enum-known-root t c = search needs
 
 make-requires : (t : ℕ) → lts.Need-make-requires (tree-claims t) (tree-at t) tree-reads.Post
-make-requires t c κs = node-asks (c .before .before .before .before .before .before .before .before .before .before .args .label) _ (roomy-after (c .before .before .before .before .before .before .before .before .before .before .pre .1 .0 .ready .roomy) (c .before .before .before .before .before .before .query .kept .1 .1 .0) (ran-done (c .before .before .root .given .1) (c .before .before .before .before .before .before .query .ensures))) (c .before .before .before .before .before .before .before .before .before .before .pre .1 .1) ((ran-done (c .before .before .root .given .1) (c .before .before .before .before .before .before .query .ensures)) .inside)
+make-requires t c κs = node-asks (c .before .before .before .before .before .before .before .before .before .before .args .label) _ (roomy-after (c .before .before .before .before .before .before .before .before .before .before .pre .1 .0 .ready .roomy) (c .before .before .before .before .before .before .query .kept .1 .0) (ran-done (c .before .before .root .given .1) (c .before .before .before .before .before .before .query .ensures))) (c .before .before .before .before .before .before .before .before .before .before .pre .1 .1) ((ran-done (c .before .before .root .given .1) (c .before .before .before .before .before .before .query .ensures)) .inside)
 
 same-length : (t : ℕ) → lts.Need-same-length (tree-claims t) (tree-at t) tree-reads.Post
-same-length t c = (c .before .before .before .before .before .query .kept .1 .1 .0)
+same-length t c = (c .before .before .before .before .before .query .kept .1 .0)
 
 returns : (t : ℕ) → lts.Need-returns (tree-claims t) (tree-at t) tree-reads.Post
 unfolding query-of
 returns t c = met-stop (stop-then _ (ran-not (c .before .why .given .1) (c .before .before .before .before .before .query .ensures)))
 
 same-length-2 : (t : ℕ) → lts.Need-same-length-2 (tree-claims t) (tree-at t) tree-reads.Post
-same-length-2 t c = c .before .before .make .kept .0 ∙ (c .before .before .before .before .before .before .before .before .before .query .kept .1 .1 .0)
+same-length-2 t c = c .before .before .make .kept .0 ∙ (c .before .before .before .before .before .before .before .before .before .query .kept .1 .0)
 
 returns-2 : (t : ℕ) → lts.Need-returns-2 (tree-claims t) (tree-at t) tree-reads.Post
 unfolding query-of

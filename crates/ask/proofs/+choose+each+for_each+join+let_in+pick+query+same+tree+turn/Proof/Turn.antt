@@ -23,7 +23,7 @@ enum-known-rest : (t : ℕ) → lts.Need-enum-known-rest (turn-claims t) (turn-a
 enum-known-rest t c = search needs
 
 row-requires : (t : ℕ) → lts.Need-row-requires (turn-claims t) (turn-at t) turn-reads.Post
-row-requires t c κs = (c .before .before .before .before .before .before .before .pre .1 .1, omega (arith, c .before .before .before .before .before .before .before .pre .1 .0 .ready .focus, c .before .before .before .before .before .before .before .pre .1 .0 .ready .roomy .small))
+row-requires t c κs = (c .before .before .before .before .before .before .before .pre .1 .1, omega (arith, c .before .before .before .before .before .before .before .pre .1 .0 .ready .focus, c .before .before .before .before .before .before .before .pre .1 .0 .ready .roomy .small), omega (arith, c .before .before .before .before .before .before .before .pre .1 .0 .ready .focus, c .before .before .before .before .before .before .before .pre .1 .0 .ready .roomy .room))
 
 cast-push : (t : ℕ) → lts.Need-cast-push (turn-claims t) (turn-at t) turn-reads.Post
 cast-push t c = search needs
@@ -32,7 +32,7 @@ push-requires : (t : ℕ) → lts.Need-push-requires (turn-claims t) (turn-at t)
 push-requires t c κs = (omega (arith, (paid-left (c .before .before .before .before .before .rest .given .1) (c .before .before .before .before .before .before .before .take .ensures)), c .before .before .before .before .before .before .before .before .before .before .pre .1 .0 .ready .roomy .room), omega (arith, c .before .before .before .before .before .before .before .before .before .before .pre .1 .0 .ready .roomy .small), record { kind = c .before .before .row .ensures .1 .kind; p = c .before .before .row .ensures .1 .p; q = c .before .before .row .ensures .1 .q; r = omega arith })
 
 with-requires : (t : ℕ) → lts.Need-with-requires (turn-claims t) (turn-at t) turn-reads.Post
-with-requires t c κs = (a-place (c .before .before .before .before .before .before .before .before .before .before .before .before .before .before .pre .1 .0 .ready .scoped) (fits-turn (c .before .before .before .before .before .before .before .before .before .before .before .before .before .before .args .s .now) (c .before .before .before .before .before .before .before .before .before .before .before .before .before .before .args .depth) (c .before .before .before .before .before .before .before .before .before .before .before .before .before .before .args .scope) (c .before .before .before .before .before .before .before .before .before .before .before .before .before .before .args .body) (c .before .before .before .before .before .before .before .before .before .before .before .before .before .before .pre .1 .0 .scope) .0), c .before .before .before .before .before .before .before .before .before .before .before .before .before .before .pre .1 .0 .ready .scoped .sixteen)
+with-requires t c κs = (a-place (c .before .before .before .before .before .before .before .before .before .before .before .before .before .before .pre .1 .0 .ready .scoped) (fits-turn (c .before .before .before .before .before .before .before .before .before .before .before .before .before .before .args .s .now) (c .before .before .before .before .before .before .before .before .before .before .before .before .before .before .args .depth) (c .before .before .before .before .before .before .before .before .before .before .before .before .before .before .args .scope) (c .before .before .before .before .before .before .before .before .before .before .before .before .before .before .args .body) (c .before .before .before .before .before .before .before .before .before .before .before .before .before .before .pre .1 .0 .scope) .0), c .before .before .before .before .before .before .before .before .before .before .before .before .before .before .pre .1 .0 .ready .scoped .sixteen, omega (arith, c .before .before .before .push .ensures .0, paid-left (c .before .before .before .before .before .before .before .before .before .rest .given .1) (c .before .before .before .before .before .before .before .before .before .before .before .take .ensures), c .before .before .before .before .before .before .before .before .before .before .before .before .before .before .pre .1 .0 .ready .roomy .small))
 
 query-requires : (t : ℕ) → lts.Need-query-requires (turn-claims t) (turn-at t) turn-reads.Post
 query-requires t c κs = (omega (arith, c .before .before .before .before .before .before .before .before .before .before .before .before .before .before .before .pre .0), turn-asks (c .before .before .before .before .before .before .before .before .before .before .before .before .before .before .before .args .s .now) (c .before .before .before .before .before .before .before .before .before .before .before .before .before .before .before .args .depth) (c .before .before .before .before .before .before .before .before .before .before .before .before .before .before .before .args .body) _ (cellsOf (c .before .before .before .before .before .before .before .row .result)) (c .before .before .before .before .before .before .before .before .before .before .before .before .before .before .before .pre .1 .0) (c .before .before .before .before .before .before .before .before .before .before .before .before .before .before .before .pre .1 .1) (paid-left (c .before .before .before .before .before .before .before .before .before .before .rest .given .1) (c .before .before .before .before .before .before .before .before .before .before .before .before .take .ensures)) (c .before .before .before .before .before .before .before .row .ensures .0) (c .before .before .before .before .push .ensures .1) (c .before .before .before .before .push .ensures .0) (c .with .ensures) (c .before .before .before .before .push .kept .0))
@@ -44,19 +44,19 @@ enum-known-root : (t : ℕ) → lts.Need-enum-known-root (turn-claims t) (turn-a
 enum-known-root t c = search needs
 
 keep-requires : (t : ℕ) → lts.Need-keep-requires (turn-claims t) (turn-at t) turn-reads.Post
-keep-requires t c κs = turn-keep (c .before .before .before .before .before .before .before .before .before .before .before .before .before .before .before .before .before .before .before .before .before .before .args .s .now) (c .before .before .before .before .before .before .before .before .before .before .before .before .before .before .before .before .before .before .before .before .before .before .args .depth) (c .before .before .before .before .before .before .before .before .before .before .before .before .before .before .before .before .before .before .before .before .before .before .args .body) _ (cellsOf (c .before .before .before .before .before .before .before .before .before .before .before .before .before .before .row .result)) (c .before .before .before .before .before .before .before .before .before .before .before .before .before .before .before .before .before .before .before .before .before .before .pre .1 .0) (c .before .before .before .before .before .before .before .before .before .before .before .before .before .before .before .before .before .before .before .before .before .before .pre .1 .1) (paid-left (c .before .before .before .before .before .before .before .before .before .before .before .before .before .before .before .before .before .rest .given .1) (c .before .before .before .before .before .before .before .before .before .before .before .before .before .before .before .before .before .before .before .take .ensures)) (c .before .before .before .before .before .before .before .before .before .before .before .before .before .before .row .ensures .0) (c .before .before .before .before .before .before .before .before .before .before .before .push .ensures .1) (c .before .before .before .before .before .before .before .before .before .before .before .push .ensures .0) (c .before .before .before .before .before .before .before .with .ensures) (ran-done (c .before .before .root .given .1) (c .before .before .before .before .before .before .query .ensures)) (ran-spare (c .before .before .root .given .1) (c .before .before .before .before .before .before .query .ensures)) (c .before .before .before .before .before .before .before .before .before .before .before .before .before .before .before .before .before .before .before .before .before .before .args .link) (c .before .before .before .before .before .before .before .before .before .before .before .before .before .before .before .before .before .before .before .before .before .before .pre .1 .2) (c .before .before .before .before .before .before .query .kept .1 .1 .0 ∙ c .before .before .before .before .before .before .before .before .before .before .before .push .kept .0)
+keep-requires t c κs = turn-keep (c .before .before .before .before .before .before .before .before .before .before .before .before .before .before .before .before .before .before .before .before .before .before .args .s .now) (c .before .before .before .before .before .before .before .before .before .before .before .before .before .before .before .before .before .before .before .before .before .before .args .depth) (c .before .before .before .before .before .before .before .before .before .before .before .before .before .before .before .before .before .before .before .before .before .before .args .body) _ (cellsOf (c .before .before .before .before .before .before .before .before .before .before .before .before .before .before .row .result)) (c .before .before .before .before .before .before .before .before .before .before .before .before .before .before .before .before .before .before .before .before .before .before .pre .1 .0) (c .before .before .before .before .before .before .before .before .before .before .before .before .before .before .before .before .before .before .before .before .before .before .pre .1 .1) (paid-left (c .before .before .before .before .before .before .before .before .before .before .before .before .before .before .before .before .before .rest .given .1) (c .before .before .before .before .before .before .before .before .before .before .before .before .before .before .before .before .before .before .before .take .ensures)) (c .before .before .before .before .before .before .before .before .before .before .before .before .before .before .row .ensures .0) (c .before .before .before .before .before .before .before .before .before .before .before .push .ensures .1) (c .before .before .before .before .before .before .before .before .before .before .before .push .ensures .0) (c .before .before .before .before .before .before .before .with .ensures) (ran-done (c .before .before .root .given .1) (c .before .before .before .before .before .before .query .ensures)) (ran-spare (c .before .before .root .given .1) (c .before .before .before .before .before .before .query .ensures)) (c .before .before .before .before .before .before .before .before .before .before .before .before .before .before .before .before .before .before .before .before .before .before .args .link) (c .before .before .before .before .before .before .before .before .before .before .before .before .before .before .before .before .before .before .before .before .before .before .pre .1 .2) (c .before .before .before .before .before .before .query .kept .1 .0 ∙ c .before .before .before .before .before .before .before .before .before .before .before .push .kept .0)
 
 returns : (t : ℕ) → lts.Need-returns (turn-claims t) (turn-at t) turn-reads.Post
 returns t c = turns-stop (stop-tick _ _ (paid-fuel (c .enum-told .given .1) (c .before .before .take .ensures)))
 
 same-length : (t : ℕ) → lts.Need-same-length (turn-claims t) (turn-at t) turn-reads.Post
-same-length t c = c .before .before .before .before .before .query .kept .1 .1 .0 ∙ c .before .before .before .before .before .before .before .before .before .before .push .kept .0
+same-length t c = c .before .before .before .before .before .query .kept .1 .0 ∙ c .before .before .before .before .before .before .before .before .before .before .push .kept .0
 
 returns-2 : (t : ℕ) → lts.Need-returns-2 (turn-claims t) (turn-at t) turn-reads.Post
 returns-2 t c = turn-stop (c .before .before .before .before .before .before .before .before .before .before .before .before .before .before .before .before .before .before .before .before .before .args .s .now) (c .before .before .before .before .before .before .before .before .before .before .before .before .before .before .before .before .before .before .before .before .before .args .depth) (c .before .before .before .before .before .before .before .before .before .before .before .before .before .before .before .before .before .before .before .before .before .args .body) _ (cellsOf (c .before .before .before .before .before .before .before .before .before .before .before .before .before .row .result)) (c .before .before .before .before .before .before .before .before .before .before .before .before .before .before .before .before .before .before .before .before .before .pre .1 .0) (c .before .before .before .before .before .before .before .before .before .before .before .before .before .before .before .before .before .before .before .before .before .pre .1 .1) (paid-left (c .before .before .before .before .before .before .before .before .before .before .before .before .before .before .before .before .rest .given .1) (c .before .before .before .before .before .before .before .before .before .before .before .before .before .before .before .before .before .before .take .ensures)) (c .before .before .before .before .before .before .before .before .before .before .before .before .before .row .ensures .0) (c .before .before .before .before .before .before .before .before .before .before .push .ensures .1) (c .before .before .before .before .before .before .before .before .before .before .push .ensures .0) (c .before .before .before .before .before .before .with .ensures) (c .before .before .before .before .before .before .before .before .before .before .before .before .before .before .before .before .before .before .before .before .before .args .link) (ran-not (c .before .why .given .1) (c .before .before .before .before .before .query .ensures))
 
 same-length-2 : (t : ℕ) → lts.Need-same-length-2 (turn-claims t) (turn-at t) turn-reads.Post
-same-length-2 t c = c .before .before .keep .kept .0 ∙ c .before .before .before .before .before .before .before .before .before .query .kept .1 .1 .0 ∙ c .before .before .before .before .before .before .before .before .before .before .before .before .before .before .push .kept .0
+same-length-2 t c = c .before .before .keep .kept .0 ∙ c .before .before .before .before .before .before .before .before .before .query .kept .1 .0 ∙ c .before .before .before .before .before .before .before .before .before .before .before .before .before .before .push .kept .0
 
 returns-3 : (t : ℕ) → lts.Need-returns-3 (turn-claims t) (turn-at t) turn-reads.Post
 returns-3 t c = turn-more (c .before .before .before .before .before .before .before .before .before .before .before .before .before .before .before .before .before .before .before .before .before .before .before .before .before .args .s .now) (c .before .before .before .before .before .before .before .before .before .before .before .before .before .before .before .before .before .before .before .before .before .before .before .before .before .args .depth) (c .before .before .before .before .before .before .before .before .before .before .before .before .before .before .before .before .before .before .before .before .before .before .before .before .before .args .body) _ (cellsOf (c .before .before .before .before .before .before .before .before .before .before .before .before .before .before .before .before .before .row .result)) (c .before .before .before .before .before .before .before .before .before .before .before .before .before .before .before .before .before .before .before .before .before .before .before .before .before .pre .1 .0) (c .before .before .before .before .before .before .before .before .before .before .before .before .before .before .before .before .before .before .before .before .before .before .before .before .before .pre .1 .1) (paid-left (c .before .before .before .before .before .before .before .before .before .before .before .before .before .before .before .before .before .before .before .before .rest .given .1) (c .before .before .before .before .before .before .before .before .before .before .before .before .before .before .before .before .before .before .before .before .before .before .take .ensures)) (c .before .before .before .before .before .before .before .before .before .before .before .before .before .before .before .before .before .row .ensures .0) (c .before .before .before .before .before .before .before .before .before .before .before .before .before .before .push .ensures .1) (c .before .before .before .before .before .before .before .before .before .before .before .before .before .before .push .ensures .0) (c .before .before .before .before .before .before .before .before .before .before .with .ensures) (ran-done (c .before .before .before .before .before .root .given .1) (c .before .before .before .before .before .before .before .before .before .query .ensures)) (ran-spare (c .before .before .before .before .before .root .given .1) (c .before .before .before .before .before .before .before .before .before .query .ensures)) (c .before .before .before .before .before .before .before .before .before .before .before .before .before .before .before .before .before .before .before .before .before .before .before .before .before .args .link) (c .before .before .before .before .before .before .before .before .before .before .before .before .before .before .before .before .before .before .before .before .before .before .before .before .before .pre .1 .2) (c .before .before .before .before .before .before .before .before .before .before .before .before .before .before .before .before .before .before .before .before .before .before .before .before .before .pre .1 .3) (c .before .before .keep .ensures)

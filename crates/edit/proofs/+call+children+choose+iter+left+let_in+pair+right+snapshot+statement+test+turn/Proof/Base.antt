@@ -49,47 +49,47 @@ use Rattle.rows.proofs.look.Reads as look-called
 use Rattle.rows.proofs.make.Reads as make-called
 use Rattle.rows.proofs.push.Reads as push-called
 use Rattle.rows.proofs.row.Reads as row-called
-use Rattle.sheet.proofs.procedure_row.Reads as procedure-row-called
-use Rattle.sheet.proofs.statement_row.Reads as statement-row-called
+use Rattle.sheet.proofs.procedure_at.Reads as procedure-at-called
+use Rattle.sheet.proofs.statement_at.Reads as statement-at-called
 use Rattle.walk.proofs.Purse.take.Reads as take-called
 use Rattle.walk.proofs.Scope.new.Reads as new-called
 use Rattle.walk.proofs.Scope.with.Reads as with-called
 
 abbrev pub μ-call : Measures 2 call-kinds.ps ℕ
-μ-call κs a = 4 * (a .1 .1 .1 .1 .1 .1 .1 .1 .1 .0) + 1
+μ-call κs a = 4 * (a .1 .1 .1 .1 .1 .1 .1 .1 .0) + 1
 
 abbrev pub μ-children : Measures 2 children-kinds.ps ℕ
-μ-children κs a = 4 * (a .1 .1 .1 .1 .1 .1 .1 .1 .0) + 1
+μ-children κs a = 4 * (a .1 .1 .1 .1 .1 .1 .1 .0) + 1
 
 abbrev pub μ-choose : Measures 2 choose-kinds.ps ℕ
-μ-choose κs a = 4 * (a .1 .1 .1 .1 .1 .1 .1 .1 .1 .1 .0) + 1
+μ-choose κs a = 4 * (a .1 .1 .1 .1 .1 .1 .1 .1 .1 .0) + 1
 
 abbrev pub μ-iter : Measures 2 iter-kinds.ps ℕ
-μ-iter κs a = 4 * (a .1 .1 .1 .1 .1 .1 .1 .0) + 2
+μ-iter κs a = 4 * (a .1 .1 .1 .1 .1 .1 .0) + 2
 
 abbrev pub μ-left : Measures 2 left-kinds.ps ℕ
-μ-left κs a = 4 * (a .1 .1 .1 .1 .1 .1 .1 .0) + 1
+μ-left κs a = 4 * (a .1 .1 .1 .1 .1 .1 .0) + 1
 
 abbrev pub μ-let-in : Measures 2 let-in-kinds.ps ℕ
-μ-let-in κs a = 4 * (a .1 .1 .1 .1 .1 .1 .1 .1 .0) + 1
+μ-let-in κs a = 4 * (a .1 .1 .1 .1 .1 .1 .1 .0) + 1
 
 abbrev pub μ-pair : Measures 2 pair-kinds.ps ℕ
-μ-pair κs a = 4 * (a .1 .1 .1 .1 .1 .1 .1 .1 .0) + 1
+μ-pair κs a = 4 * (a .1 .1 .1 .1 .1 .1 .1 .0) + 1
 
 abbrev pub μ-right : Measures 2 right-kinds.ps ℕ
-μ-right κs a = 4 * (a .1 .1 .1 .1 .1 .1 .1 .0) + 1
+μ-right κs a = 4 * (a .1 .1 .1 .1 .1 .1 .0) + 1
 
 abbrev pub μ-snapshot : Measures 2 snapshot-kinds.ps ℕ
-μ-snapshot κs a = 4 * (a .1 .1 .1 .1 .1 .1 .1 .0) + 1
+μ-snapshot κs a = 4 * (a .1 .1 .1 .1 .1 .1 .0) + 1
 
 abbrev pub μ-statement : Measures 2 statement-kinds.ps ℕ
-μ-statement κs a = 4 * (a .1 .1 .1 .1 .1 .1 .1 .0)
+μ-statement κs a = 4 * (a .1 .1 .1 .1 .1 .1 .0)
 
 abbrev pub μ-test : Measures 2 test-kinds.ps ℕ
-μ-test κs a = 4 * (a .1 .1 .1 .1 .1 .1 .1 .1 .1 .1 .0) + 1
+μ-test κs a = 4 * (a .1 .1 .1 .1 .1 .1 .1 .1 .1 .0) + 1
 
 abbrev pub μ-turn : Measures 2 turn-kinds.ps ℕ
-μ-turn κs a = 4 * (a .1 .1 .1 .1 .1 .1 .1 .1 .0) + 1
+μ-turn κs a = 4 * (a .1 .1 .1 .1 .1 .1 .1 .0) + 1
 
 abbrev pub call-at : ℕ → In 2 call-kinds.ps
 call-at t = and 2 call-kinds.ps (is 2 call-kinds.ps μ-call t) call-reads.Pre
@@ -164,7 +164,7 @@ abbrev pub turn-below : ℕ → In 2 turn-kinds.ps
 turn-below t = and 2 turn-kinds.ps (falls 2 turn-kinds.ps _<_ μ-turn t) turn-reads.Pre
 
 abbrev pub call-claims : ℕ → call-lts.Claims
-call-claims t = (procedure-row-called.Asked, procedure-row-called.Learnt, new-called.Asked, new-called.Learnt, statement-below t, statement-reads.Post, query-called.Asked, query-called.Learnt, with-called.Asked, with-called.Learnt)
+call-claims t = (procedure-at-called.Asked, procedure-at-called.Learnt, new-called.Asked, new-called.Learnt, statement-below t, statement-reads.Post, query-called.Asked, query-called.Learnt, with-called.Asked, with-called.Learnt)
 
 abbrev pub children-claims : ℕ → children-lts.Claims
 children-claims t = (look-called.Asked, look-called.Learnt, statement-below t, statement-reads.Post, make-called.Asked, make-called.Learnt)
@@ -191,7 +191,7 @@ abbrev pub snapshot-claims : ℕ → snapshot-lts.Claims
 snapshot-claims t = (with-called.Asked, with-called.Learnt, statement-below t, statement-reads.Post)
 
 abbrev pub statement-claims : ℕ → statement-lts.Claims
-statement-claims t = (take-called.Asked, take-called.Learnt, statement-row-called.Asked, statement-row-called.Learnt, pair-below t, pair-reads.Post, choose-below t, choose-reads.Post, insert-called.Asked, insert-called.Learnt, rename-called.Asked, rename-called.Learnt, let-in-below t, let-in-reads.Post, snapshot-below t, snapshot-reads.Post, test-below t, test-reads.Post, children-below t, children-reads.Post, left-below t, left-reads.Post, right-below t, right-reads.Post, iter-below t, iter-reads.Post, call-below t, call-reads.Post)
+statement-claims t = (take-called.Asked, take-called.Learnt, statement-at-called.Asked, statement-at-called.Learnt, pair-below t, pair-reads.Post, choose-below t, choose-reads.Post, insert-called.Asked, insert-called.Learnt, rename-called.Asked, rename-called.Learnt, let-in-below t, let-in-reads.Post, snapshot-below t, snapshot-reads.Post, test-below t, test-reads.Post, children-below t, children-reads.Post, left-below t, left-reads.Post, right-below t, right-reads.Post, iter-below t, iter-reads.Post, call-below t, call-reads.Post)
 
 abbrev pub test-claims : ℕ → test-lts.Claims
 test-claims t = (judge-called.Asked, judge-called.Learnt, statement-below t, statement-reads.Post)

@@ -29,7 +29,7 @@ enum-known-root : (t : ℕ) → lts.Need-enum-known-root (children-claims t) (ch
 enum-known-root t c = search needs
 
 make-requires : (t : ℕ) → lts.Need-make-requires (children-claims t) (children-at t) children-reads.Post
-make-requires t c κs = let the-statement = c .before .before .before .before .before .before .statement in let a = c .before .before .before .before .before .before .before .before .before .before .before .before .before .before .before .args in let h = c .before .before .before .before .before .before .before .before .before .before .before .before .before .before .before .pre .1 in let r = h .asks .ready in let f = (ran-done (c .before .before .root .given .1) (the-statement .ensures)) in let n = (sees-node (c .before .before .before .before .before .before .before .before .before .label .given .1) (c .before .before .before .before .before .before .before .before .before .before .before .look .ensures (pool (a .s .now)))) in node-asks _ _ (roomy-after (r .roomy) (the-statement .kept .1 .1 .0) f) (n .label) (f .inside)
+make-requires t c κs = let the-statement = c .before .before .before .before .before .before .statement in let a = c .before .before .before .before .before .before .before .before .before .before .before .before .before .before .before .args in let h = c .before .before .before .before .before .before .before .before .before .before .before .before .before .before .before .pre .1 in let r = h .asks .ready in let f = (ran-done (c .before .before .root .given .1) (the-statement .ensures)) in let n = (sees-node (c .before .before .before .before .before .before .before .before .before .label .given .1) (c .before .before .before .before .before .before .before .before .before .before .before .look .ensures (pool (a .s .now)))) in node-asks _ _ (roomy-after (r .roomy) (the-statement .kept .1 .0) f) (n .label) (f .inside)
 
 enum-told : (t : ℕ) → lts.Need-enum-told (children-claims t) (children-at t) children-reads.Post
 enum-told t c = search needs
@@ -44,13 +44,13 @@ enum-told-4 : (t : ℕ) → lts.Need-enum-told-4 (children-claims t) (children-a
 enum-told-4 t c = search needs
 
 same-length : (t : ℕ) → lts.Need-same-length (children-claims t) (children-at t) children-reads.Post
-same-length t c = c .before .before .before .before .before .statement .kept .1 .1 .0
+same-length t c = c .before .before .before .before .before .statement .kept .1 .0
 
 returns : (t : ℕ) → lts.Need-returns (children-claims t) (children-at t) children-reads.Post
 returns t c = let a = c .before .before .before .before .before .before .before .before .before .before .before .before .before .before .args in let h = c .before .before .before .before .before .before .before .before .before .before .before .before .before .before .pre .1 in let r = h .asks .ready in met-stop (children-stop (a .s .now) (a .depth) r (a .at) (a .p) _ ((sees-node (c .before .before .before .before .before .before .before .before .label .given .1) (c .before .before .before .before .before .before .before .before .before .before .look .ensures (pool (a .s .now)))) .is) (ran-not (c .before .why .given .1) (c .before .before .before .before .before .statement .ensures)))
 
 same-length-2 : (t : ℕ) → lts.Need-same-length-2 (children-claims t) (children-at t) children-reads.Post
-same-length-2 t c = c .before .before .make .kept .0 ∙ c .before .before .before .before .before .before .before .before .before .statement .kept .1 .1 .0
+same-length-2 t c = c .before .before .make .kept .0 ∙ c .before .before .before .before .before .before .before .before .before .statement .kept .1 .0
 
 returns-2 : (t : ℕ) → lts.Need-returns-2 (children-claims t) (children-at t) children-reads.Post
 returns-2 t c = let a = c .before .before .before .before .before .before .before .before .before .before .before .before .before .before .before .before .before .before .args in let h = c .before .before .before .before .before .before .before .before .before .before .before .before .before .before .before .before .before .before .pre .1 in let r = h .asks .ready in children-met (a .s .now) (a .depth) r (a .at) (a .p) _ ((sees-node (c .before .before .before .before .before .before .before .before .before .before .before .before .label .given .1) (c .before .before .before .before .before .before .before .before .before .before .before .before .before .before .look .ensures (pool (a .s .now)))) .is) (ran-done (c .before .before .before .before .before .root .given .1) (c .before .before .before .before .before .before .before .before .before .statement .ensures)) (c .before .before .make .ensures (pool (a .s .now)))

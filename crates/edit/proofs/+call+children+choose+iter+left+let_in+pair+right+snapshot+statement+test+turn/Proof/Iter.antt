@@ -16,25 +16,25 @@ use Rattle.edit.proofs.+call+children+choose+iter+left+let_in+pair+righ
 use Rattle.edit.proofs.+call+children+choose+iter+left+let_in+pair+right+snapshot+statement+test+turn.Proof.Base.{iter-claims, iter-at}
 
 abbrev Inv-loop : lts.InvT-loop
-Inv-loop s l rows₀ scope used body focus depth at₀ link₀ n₀ rest₀ rows at link n rest = (Looping (body-went s rows₀ scope depth body) (pool s) rows₀ rows used focus (rest₀ .left) at link n (rest .left)) × (length rows ≡ length rows₀)
+Inv-loop s rows₀ scope used body focus depth at₀ link₀ n₀ rest₀ rows at link n rest = (Looping (body-went s rows₀ scope depth body) (pool s) rows₀ rows used focus (rest₀ .left) at link n (rest .left)) × (length rows ≡ length rows₀)
 
 abbrev μ-loop : lts.MeasureT-loop
-μ-loop s l rows₀ scope used body focus depth at₀ link₀ n₀ rest₀ rows at link n rest = at
+μ-loop s rows₀ scope used body focus depth at₀ link₀ n₀ rest₀ rows at link n rest = at
 
 loop-holds : (t : ℕ) → lts.Need-loop-holds (iter-claims t) (iter-at t) iter-reads.Post Inv-loop μ-loop
 loop-holds t c = let a = c .before .before .args in let h = c .before .before .pre .1 in let r = h .asks .ready in (loop-start (body-went (a .s .now) (a .rows .now) (a .scope) (a .depth) (a .body)) (pool (a .s .now)) (r .roomy) (r .focus), refl)
 
 row-requires : (t : ℕ) → lts.Need-row-requires (iter-claims t) (iter-at t) iter-reads.Post Inv-loop μ-loop
-row-requires t c κs = let a = c .before .before .before .before .before .args in let h = c .before .before .before .before .before .pre .1 in let r = h .asks .ready in (omega (arith, c .before .loop-test .taken), omega (arith, c .before .before .loop .inv .0 .among, r .roomy .small))
+row-requires t c κs = let the-loop = c .before .before .loop in let a = c .before .before .before .before .before .args in let h = c .before .before .before .before .before .pre .1 in let r = h .asks .ready in (omega (arith, c .before .loop-test .taken), omega (arith, the-loop .inv .0 .among, r .roomy .small), omega (arith, the-loop .inv .0 .among, the-loop .inv .1, r .roomy .room))
 
 turn-requires : (t : ℕ) → lts.Need-turn-requires (iter-claims t) (iter-at t) iter-reads.Post Inv-loop μ-loop
-turn-requires t c κs = let the-pre = c .before .before .before .before .before .before .before .pre in let the-loop = c .before .before .before .before .loop in let a = c .before .before .before .before .before .before .before .args in let h = the-pre .1 in let r = h .asks .ready in let g = the-loop .inv .0 in (omega (arith, the-pre .0), (record { shaped = h .shaped; asks = record { laid = h .asks .laid; ready = loop-ready (body-went (a .s .now) (a .rows .now) (a .scope) (a .depth) (a .body)) (pool (a .s .now)) (r .roomy) (r .focus) g (r .scoped) (the-loop .inv .1); scope = h .asks .scope } }, omega (arith, c .before .before .before .loop-test .taken), g .linked, g .links))
+turn-requires t c κs = let the-pre = c .before .before .before .before .before .before .before .pre in let the-loop = c .before .before .before .before .loop in let a = c .before .before .before .before .before .before .before .args in let h = the-pre .1 in let r = h .asks .ready in let g = the-loop .inv .0 in (omega (arith, the-pre .0), (record { shaped = h .shaped; asks = record { whole = h .asks .whole; ready = loop-ready (body-went (a .s .now) (a .rows .now) (a .scope) (a .depth) (a .body)) (pool (a .s .now)) (r .roomy) (r .focus) g (r .scoped) (the-loop .inv .1); scope = h .asks .scope } }, omega (arith, c .before .before .before .loop-test .taken), g .linked, g .links))
 
 enum-known-why : (t : ℕ) → lts.Need-enum-known-why (iter-claims t) (iter-at t) iter-reads.Post Inv-loop μ-loop
 enum-known-why t c = search needs
 
 same-length : (t : ℕ) → lts.Need-same-length (iter-claims t) (iter-at t) iter-reads.Post Inv-loop μ-loop
-same-length t c = c .before .before .before .before .before .turn .kept .1 .1 .0 ∙ c .before .before .before .before .before .before .before .before .before .before .loop .inv .1
+same-length t c = c .before .before .before .before .before .turn .kept .1 .0 ∙ c .before .before .before .before .before .before .before .before .before .before .loop .inv .1
 
 returns : (t : ℕ) → lts.Need-returns (iter-claims t) (iter-at t) iter-reads.Post Inv-loop μ-loop
 returns t c = let the-row = c .before .before .before .before .before .before .before .row in let a = c .before .before .before .before .before .before .before .before .before .before .before .before .before .args in let h = c .before .before .before .before .before .before .before .before .before .before .before .before .before .pre .1 in let r = h .asks .ready in let g = c .before .before .before .before .before .before .before .before .before .before .loop .inv .0 in met-stop (loop-stop (body-went (a .s .now) (a .rows .now) (a .scope) (a .depth) (a .body)) (pool (a .s .now)) (r .roomy) (r .focus) g (cellsOf (the-row .result)) (omega (arith, c .before .before .before .before .before .before .before .before .before .loop-test .taken)) (the-row .ensures .0) (body-looped (a .s .now) (a .rows .now) (r .roomy .low) (r .scoped) (a .depth) (a .body) g) (turns-not (c .before .why .given .1) (c .before .before .before .before .before .turn .ensures)))
@@ -46,7 +46,7 @@ loop-less : (t : ℕ) → lts.Need-loop-less (iter-claims t) (iter-at t) iter-re
 loop-less t c = let the-row = c .before .before .before .before .before .before .before .row in let a = c .before .before .before .before .before .before .before .before .before .before .before .before .before .args in let h = c .before .before .before .before .before .before .before .before .before .before .before .before .before .pre .1 in let r = h .asks .ready in let g = c .before .before .before .before .before .before .before .before .before .before .loop .inv .0 in loop-falls (body-went (a .s .now) (a .rows .now) (a .scope) (a .depth) (a .body)) (pool (a .s .now)) (r .roomy) (r .focus) g (cellsOf (the-row .result)) (omega (arith, c .before .before .before .before .before .before .before .before .before .loop-test .taken)) (the-row .ensures .0)
 
 loop-again : (t : ℕ) → lts.Need-loop-again (iter-claims t) (iter-at t) iter-reads.Post Inv-loop μ-loop
-loop-again t c = let the-loop = c .before .before .before .before .before .before .before .before .before .before .loop in let the-row = c .before .before .before .before .before .before .before .row in let the-turn = c .before .before .before .before .before .turn in let a = c .before .before .before .before .before .before .before .before .before .before .before .before .before .args in let h = c .before .before .before .before .before .before .before .before .before .before .before .before .before .pre .1 in let r = h .asks .ready in let g = the-loop .inv .0 in (loop-more (body-went (a .s .now) (a .rows .now) (a .scope) (a .depth) (a .body)) (pool (a .s .now)) (r .roomy) (r .focus) g (cellsOf (the-row .result)) (omega (arith, c .before .before .before .before .before .before .before .before .before .loop-test .taken)) (the-row .ensures .0) (body-looped (a .s .now) (a .rows .now) (r .roomy .low) (r .scoped) (a .depth) (a .body) g) (turns-done (c .before .root .given .1) (the-turn .ensures)), the-turn .kept .1 .1 .0 ∙ the-loop .inv .1)
+loop-again t c = let the-loop = c .before .before .before .before .before .before .before .before .before .before .loop in let the-row = c .before .before .before .before .before .before .before .row in let the-turn = c .before .before .before .before .before .turn in let a = c .before .before .before .before .before .before .before .before .before .before .before .before .before .args in let h = c .before .before .before .before .before .before .before .before .before .before .before .before .before .pre .1 in let r = h .asks .ready in let g = the-loop .inv .0 in (loop-more (body-went (a .s .now) (a .rows .now) (a .scope) (a .depth) (a .body)) (pool (a .s .now)) (r .roomy) (r .focus) g (cellsOf (the-row .result)) (omega (arith, c .before .before .before .before .before .before .before .before .before .loop-test .taken)) (the-row .ensures .0) (body-looped (a .s .now) (a .rows .now) (r .roomy .low) (r .scoped) (a .depth) (a .body) g) (turns-done (c .before .root .given .1) (the-turn .ensures)), the-turn .kept .1 .0 ∙ the-loop .inv .1)
 
 gather-requires : (t : ℕ) → lts.Need-gather-requires (iter-claims t) (iter-at t) iter-reads.Post Inv-loop μ-loop
 gather-requires t c κs = let the-loop = c .before .before .loop in let a = c .before .before .before .before .before .args in let h = c .before .before .before .before .before .pre .1 in let r = h .asks .ready in loop-asks (body-went (a .s .now) (a .rows .now) (a .scope) (a .depth) (a .body)) (pool (a .s .now)) (r .roomy) (r .focus) (the-loop .inv .0) (the-loop .inv .1)

@@ -21,17 +21,17 @@ enum-known-root : (t : ℕ) → lts.Need-enum-known-root (pair-claims t) (pair-a
 enum-known-root t c = search needs
 
 statement-requires-2 : (t : ℕ) → lts.Need-statement-requires-2 (pair-claims t) (pair-at t) pair-reads.Post
-statement-requires-2 t c κs = let the-pre = c .before .before .before .before .before .before .before .before .before .before .pre in let the-statement = c .before .before .before .before .before .before .statement in let a = c .before .before .before .before .before .before .before .before .before .before .args in let h = the-pre .1 in let r = h .asks .ready in let f = ran-done (c .before .before .root .given .1) (the-statement .ensures) in (omega (arith, the-pre .0), edits-after h _ (the-statement .kept .1 .1 .0) f (f .inside) (fits-then (a .s .now) (a .depth) (a .scope) (a .p) (a .q) (h .asks .scope) .1))
+statement-requires-2 t c κs = let the-pre = c .before .before .before .before .before .before .before .before .before .before .pre in let the-statement = c .before .before .before .before .before .before .statement in let a = c .before .before .before .before .before .before .before .before .before .before .args in let h = the-pre .1 in let r = h .asks .ready in let f = ran-done (c .before .before .root .given .1) (the-statement .ensures) in (omega (arith, the-pre .0), edits-after h _ (the-statement .kept .1 .0) f (f .inside) (fits-then (a .s .now) (a .depth) (a .scope) (a .p) (a .q) (h .asks .scope) .1))
 
 same-length : (t : ℕ) → lts.Need-same-length (pair-claims t) (pair-at t) pair-reads.Post
-same-length t c = c .before .before .before .before .before .statement .kept .1 .1 .0
+same-length t c = c .before .before .before .before .before .statement .kept .1 .0
 
 returns : (t : ℕ) → lts.Need-returns (pair-claims t) (pair-at t) pair-reads.Post
 unfolding statement-of
 returns t c = met-stop (stop-then _ (ran-not (c .before .why .given .1) (c .before .before .before .before .before .statement .ensures)))
 
 same-length-2 : (t : ℕ) → lts.Need-same-length-2 (pair-claims t) (pair-at t) pair-reads.Post
-same-length-2 t c = c .before .before .statement2 .kept .1 .1 .0 ∙ c .before .before .before .before .before .before .before .before .before .statement .kept .1 .1 .0
+same-length-2 t c = c .before .before .statement2 .kept .1 .0 ∙ c .before .before .before .before .before .before .before .before .before .statement .kept .1 .0
 
 returns-2 : (t : ℕ) → lts.Need-returns-2 (pair-claims t) (pair-at t) pair-reads.Post
 returns-2 t c = let a = c .before .before .before .before .before .before .before .before .before .before .before .before .before .args in let h = c .before .before .before .before .before .before .before .before .before .before .before .before .before .pre .1 in let r = h .asks .ready in then-met (a .s .now) (a .depth) r (a .p) (a .q) (ran-done (c .before .before .before .before .before .root .given .1) (c .before .before .before .before .before .before .before .before .before .statement .ensures)) (c .before .before .statement2 .ensures .met)

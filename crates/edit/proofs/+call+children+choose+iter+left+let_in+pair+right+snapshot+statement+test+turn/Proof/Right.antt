@@ -23,17 +23,17 @@ enum-known-root : (t : ℕ) → lts.Need-enum-known-root (right-claims t) (right
 enum-known-root t c = search needs
 
 front-requires : (t : ℕ) → lts.Need-front-requires (right-claims t) (right-at t) right-reads.Post
-front-requires t c κs = let the-statement = c .before .before .before .before .before .before .statement in let a = c .before .before .before .before .before .before .before .before .before .before .args in let h = c .before .before .before .before .before .before .before .before .before .before .pre .1 in let r = h .asks .ready in let f = (ran-done (c .before .before .root .given .1) (the-statement .ensures)) in (roomy-after (r .roomy) (the-statement .kept .1 .1 .0) f, omega (arith, r .focus, f .grown), f .inside)
+front-requires t c κs = let the-statement = c .before .before .before .before .before .before .statement in let a = c .before .before .before .before .before .before .before .before .before .before .args in let h = c .before .before .before .before .before .before .before .before .before .before .pre .1 in let r = h .asks .ready in let f = (ran-done (c .before .before .root .given .1) (the-statement .ensures)) in (roomy-after (r .roomy) (the-statement .kept .1 .0) f, omega (arith, r .focus, f .grown), f .inside)
 
 same-length : (t : ℕ) → lts.Need-same-length (right-claims t) (right-at t) right-reads.Post
-same-length t c = c .before .before .before .before .before .statement .kept .1 .1 .0
+same-length t c = c .before .before .before .before .before .statement .kept .1 .0
 
 returns : (t : ℕ) → lts.Need-returns (right-claims t) (right-at t) right-reads.Post
 unfolding statement-of
 returns t c = let a = c .before .before .before .before .before .before .before .before .before .args in let h = c .before .before .before .before .before .before .before .before .before .pre .1 in let r = h .asks .ready in met-stop (beside-stop (a .s .now) (a .depth) r (a .p) (λ x f. fronted f x) (ran-not (c .before .why .given .1) (c .before .before .before .before .before .statement .ensures)))
 
 same-length-2 : (t : ℕ) → lts.Need-same-length-2 (right-claims t) (right-at t) right-reads.Post
-same-length-2 t c = c .before .before .front .kept .0 ∙ c .before .before .before .before .before .before .before .before .before .statement .kept .1 .1 .0
+same-length-2 t c = c .before .before .front .kept .0 ∙ c .before .before .before .before .before .before .before .before .before .statement .kept .1 .0
 
 returns-2 : (t : ℕ) → lts.Need-returns-2 (right-claims t) (right-at t) right-reads.Post
 unfolding statement-of

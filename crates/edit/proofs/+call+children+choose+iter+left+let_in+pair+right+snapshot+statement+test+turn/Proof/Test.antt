@@ -33,7 +33,7 @@ returns : (t : ℕ) → lts.Need-returns (test-claims t) (test-at t) test-reads.
 returns t c = let a = c .before .before .before .before .before .before .args in let h = c .before .before .before .before .before .before .pre .1 in let r = h .asks .ready in test-misfit (a .s .now) (a .depth) r (a .at) (a .p) (a .q) (a .r) (c .before .before .judge .ensures (pool (a .s .now))) _ (c .enum-told .given .1)
 
 same-length-2 : (t : ℕ) → lts.Need-same-length-2 (test-claims t) (test-at t) test-reads.Post
-same-length-2 t c = c .before .before .statement .kept .1 .1 .0
+same-length-2 t c = c .before .before .statement .kept .1 .0
 
 returns-2 : (t : ℕ) → lts.Need-returns-2 (test-claims t) (test-at t) test-reads.Post
 returns-2 t c = let a = c .before .before .before .before .before .before .before .before .before .before .args in let h = c .before .before .before .before .before .before .before .before .before .before .pre .1 in let r = h .asks .ready in test-matched (a .s .now) (a .depth) r (a .at) (a .p) (a .q) (a .r) (c .before .before .before .before .before .before .judge .ensures (pool (a .s .now))) (c .before .before .before .before .enum-told2 .given .1) (c .before .before .statement .ensures .met)

@@ -16,8 +16,11 @@ mul-p c = search needs
 element-copy-out-p : tie.Need-element-copy-out-p
 element-copy-out-p c = search needs
 
+cast-result : tie.Need-cast-result
+cast-result c = search needs
+
 returns-2 : tie.Need-returns-2
-returns-2 c = value-some (c .before .before .args .t1) (c .before .before .args .v) (omega arith)
+returns-2 c = value-some (c .before .before .before .args .t1) (c .before .before .before .args .v) (omega arith)
 
 pub value-spec : {M : Type 1} → statement M
-value-spec = tie.close (tie.spec returns mul-p element-copy-out-p returns-2)
+value-spec = tie.close (tie.spec returns mul-p element-copy-out-p cast-result returns-2)

@@ -6,8 +6,11 @@ use Rattle.walk.proofs.Scope.with.Tie as tie
 use Rattle.walk.proofs.Scope.with.Reads as reads
 use Rattle.walk.proofs.Scope.with.Lts as lts
 
-mul-t7 : tie.Need-mul-t7
-mul-t7 c = search needs
+cast-t6 : tie.Need-cast-t6
+cast-t6 c = search needs
+
+mul-t8 : tie.Need-mul-t8
+mul-t8 c = search needs
 
 element-set-from-next : tie.Need-element-set-from-next
 element-set-from-next c = search needs
@@ -19,4 +22,4 @@ returns : tie.Need-returns
 returns c = more-of (c .args .kind) (c .args .value) (c .pre .0) (c .pre .1)
 
 pub with-spec : {M : Type 1} → statement M
-with-spec = tie.close (tie.spec mul-t7 element-set-from-next add-next returns)
+with-spec = tie.close (tie.spec cast-t6 mul-t8 element-set-from-next add-next returns)
