@@ -1,16 +1,45 @@
 -- The paper's judgments, as document 01 narrows them: run by figures 3 and 12, typing by figures 4 and 13, with appendix A's judgments for pick and for.
 -- No units, no depth, no order. A premise `statementAt S i ≡ ..` says which rule a row is for. Subsumption stands only where document 01 asks for inclusion, and arities are replaced by "an atom as written".
-use Prim.Native.Nat.{ℕ, zero, suc, _≤_}
+-- What a rule looks at is said by relations of its own, not by functions of run and check; Laws/Figures shows that they agree.
+use Prim.Native.Nat.{ℕ, _≤_}
 use mathlib.Core.Path.{_≡_}
 use mathlib.Core.Bool.{Bool, true, false}
 use mathlib.Core.List.{List, [], _∷_, _++_}
 use lib.ListN.{getD}
 use Rattle.meaning.specs.Sheet.{Script}
 use Rattle.meaning.specs.Kinds.{Query, Test, Statement, queryAt, statementAt}
-use Rattle.meaning.specs.Forest.{Text, Tree, Forest, nil, cons, only, _⊕_, textAt, sameBytes}
-use Rattle.meaning.specs.Types.{Ty, Named, Within, Atom, atomOf, declared, namesIn}
-use Rattle.meaning.specs.Run.{Env, Fate, matched, passed, seen, tested, inside, kept}
-use Rattle.meaning.specs.Check.{Types, tests, declaration}
+use Rattle.meaning.specs.Forest.{Text, Tree, Forest, nil, cons, only, _⊕_, textAt}
+use Rattle.meaning.specs.Types.{Ty, Named, Within, declared, namesIn}
+use Rattle.meaning.specs.Run.{Env}
+use Rattle.meaning.specs.Check.{Types, declaration}
+
+-- ---- what the rules of a run look at
+
+-- t ∈ ⟦φ⟧ (section 3.3): the tree is one that the test is for
+pub data Matches : Test → Tree → Type 0 where
+  m-text : {w : Text} → Matches Test.text (Tree.text w)
+  m-any : {t : Tree} → Matches Test.any t
+  m-label : {n : ℕ} {f : Forest} → Matches (Test.label n) (Tree.node n f)
+
+-- t ∉ ⟦φ⟧
+abbrev pub Differs : Test → Tree → Type 0
+Differs φ t = Matches φ t → ⊥
+
+-- children (n[f]) = f, and children (v) = () for any other v (figure 12)
+pub data Inside : Forest → Forest → Type 0 where
+  in-node : {n : ℕ} {f : Forest} → Inside (only (Tree.node n f)) f
+  in-other : {v : Forest} → ((n : ℕ) (f : Forest) → v ≡ only (Tree.node n f) → ⊥) → Inside v nil
+
+-- [n[v] | n[v] ∈ f] (figure 12): the trees of f with the label n, in their order
+pub data Kept (n : ℕ) : Forest → Forest → Type 0 where
+  k-none : Kept n nil nil
+  k-tree : {t : Tree} {f g : Forest} → Matches (Test.label n) t → Kept n f g → Kept n (cons t f) (cons t g)
+  k-other : {t : Tree} {f g : Forest} → Differs (Test.label n) t → Kept n f g → Kept n (cons t f) g
+
+-- are two texts the same: by their bytes
+pub data Same (w v : Text) : Bool → Type 0 where
+  same-bytes : w .bytes ≡ v .bytes → Same w v true
+  other-bytes : (w .bytes ≡ v .bytes → ⊥) → Same w v false
 
 -- ---- run: γ ⊢ e ⇒ v (figure 12) and γ; v ⊢ s ⇒ v′ (figure 3)
 
@@ -27,9 +56,10 @@ module _ (S : Script) (byte : ℕ → ℕ) where
       g-let : {γ : Env} {i p q : ℕ} {x y : Forest} → queryAt S i ≡ Query.letin p q → Gives γ p x → Gives (γ ++ x ∷ []) q y → Gives γ i y
       g-if-true : {γ : Env} {i p q r : ℕ} {x : Forest} → queryAt S i ≡ Query.if p q r → Gives γ p (only (Tree.bool true)) → Gives γ q x → Gives γ i x
       g-if-false : {γ : Env} {i p q r : ℕ} {x : Forest} → queryAt S i ≡ Query.if p q r → Gives γ p (only (Tree.bool false)) → Gives γ r x → Gives γ i x
-      g-same : {γ : Env} {i p q : ℕ} {w v : Text} → queryAt S i ≡ Query.same p q → Gives γ p (only (Tree.text w)) → Gives γ q (only (Tree.text v)) → Gives γ i (only (Tree.bool (sameBytes (w .bytes) (v .bytes))))
-      g-children : {γ : Env} {i v : ℕ} {x : Forest} → queryAt S i ≡ Query.children v → inside (seen (getD γ v nil)) ≡ x → Gives γ i x
-      g-pick : {γ : Env} {i p l : ℕ} {x y : Forest} → queryAt S i ≡ Query.pick p l → Gives γ p x → kept l x ≡ y → Gives γ i y
+      g-same : {γ : Env} {i p q : ℕ} {w v : Text} {b : Bool} → queryAt S i ≡ Query.same p q
+          → Gives γ p (only (Tree.text w)) → Gives γ q (only (Tree.text v)) → Same w v b → Gives γ i (only (Tree.bool b))
+      g-children : {γ : Env} {i v : ℕ} {x : Forest} → queryAt S i ≡ Query.children v → Inside (getD γ v nil) x → Gives γ i x
+      g-pick : {γ : Env} {i p l : ℕ} {x y : Forest} → queryAt S i ≡ Query.pick p l → Gives γ p x → Kept l x y → Gives γ i y
       g-for : {γ : Env} {i p q : ℕ} {x y : Forest} → queryAt S i ≡ Query.for p q → Gives γ p x → GivesEach γ q x y → Gives γ i y
 
     -- row q, for each tree, one after the other
@@ -54,8 +84,9 @@ module _ (S : Script) (byte : ℕ → ℕ) where
       t-rename : {γ : Env} {i l n : ℕ} {f : Forest} → statementAt S i ≡ Statement.rename l → Takes γ i (only (Tree.node n f)) (only (Tree.node l f))
       t-let : {γ : Env} {i p q : ℕ} {x f g : Forest} → statementAt S i ≡ Statement.letin p q → Gives γ p x → Takes (γ ++ x ∷ []) q f g → Takes γ i f g
       t-snapshot : {γ : Env} {i p : ℕ} {f g : Forest} → statementAt S i ≡ Statement.snapshot p → Takes (γ ++ f ∷ []) p f g → Takes γ i f g
-      t-test : {γ : Env} {i r : ℕ} {t : Test} {u : Tree} {g : Forest} → statementAt S i ≡ Statement.test t r → tested t (seen (only u)) ≡ matched → Takes γ r (only u) g → Takes γ i (only u) g
-      t-pass : {γ : Env} {i r : ℕ} {t : Test} {u : Tree} → statementAt S i ≡ Statement.test t r → tested t (seen (only u)) ≡ passed → Takes γ i (only u) (only u)
+      t-test : {γ : Env} {i r : ℕ} {t : Test} {u : Tree} {g : Forest} → statementAt S i ≡ Statement.test t r
+          → Matches t u → Takes γ r (only u) g → Takes γ i (only u) g
+      t-pass : {γ : Env} {i r : ℕ} {t : Test} {u : Tree} → statementAt S i ≡ Statement.test t r → Differs t u → Takes γ i (only u) (only u)
       t-children : {γ : Env} {i p n : ℕ} {f g : Forest} → statementAt S i ≡ Statement.children p → Takes γ p f g → Takes γ i (only (Tree.node n f)) (only (Tree.node n g))
       t-left : {γ : Env} {i p : ℕ} {f x : Forest} → statementAt S i ≡ Statement.left p → Takes γ p nil x → Takes γ i f (x ⊕ f)
       t-right : {γ : Env} {i p : ℕ} {f x : Forest} → statementAt S i ≡ Statement.right p → Takes γ p nil x → Takes γ i f (f ⊕ x)
@@ -67,7 +98,7 @@ module _ (S : Script) (byte : ℕ → ℕ) where
       iter-none : {γ : Env} {p : ℕ} → TakesEach γ p nil nil
       iter-tree : {γ : Env} {p : ℕ} {t : Tree} {f x y : Forest} → Takes γ p (only t) x → TakesEach γ p f y → TakesEach γ p (cons t f) (x ⊕ y)
 
--- ---- typing: τ :: n ⇒ τ′ (appendix A)
+-- ---- what the rules of typing look at: an atom as written
 
 -- a type whose top is an atom
 pub data Atomic : Ty → Type 0 where
@@ -76,10 +107,28 @@ pub data Atomic : Ty → Type 0 where
   is-label : {n : ℕ} {τ : Ty} → Atomic (Ty.label n τ)
   is-name : {x : ℕ} → Atomic (Ty.name x)
 
+-- α is the labelled atom n[τ]; a name acts as its label row
+pub data Labelled (names : ℕ → Named) : Ty → ℕ → Ty → Type 0 where
+  l-label : {n : ℕ} {τ : Ty} → Labelled names (Ty.label n τ) n τ
+  l-name : {x : ℕ} → Labelled names (Ty.name x) (names x .label) (names x .content)
+
+-- α <: φ (section 4): the test is for every tree of the atom
+pub data TestMatches (names : ℕ → Named) : Test → Ty → Type 0 where
+  a-text : TestMatches names Test.text Ty.text
+  a-any : {α : Ty} → Atomic α → TestMatches names Test.any α
+  a-label : {n : ℕ} {α τ : Ty} → Labelled names α n τ → TestMatches names (Test.label n) α
+
+-- not α <: φ, and α is an atom
+pub record TestDiffers (names : ℕ → Named) (φ : Test) (α : Ty) : Type 0 where
+  pub atom : Atomic α
+  pub differs : TestMatches names φ α → ⊥
+
+-- ---- typing: τ :: n ⇒ τ′ (appendix A)
+
 pub data Picks (names : ℕ → Named) (l : ℕ) : Ty → Ty → Type 0 where
   p-empty : Picks names l Ty.empty Ty.empty
-  p-kept : {α : Ty} → Atomic α → tests (Test.label l) (atomOf names α) ≡ matched → Picks names l α α
-  p-away : {α : Ty} → Atomic α → tests (Test.label l) (atomOf names α) ≡ passed → Picks names l α Ty.empty
+  p-kept : {α : Ty} → TestMatches names (Test.label l) α → Picks names l α α
+  p-away : {α : Ty} → TestDiffers names (Test.label l) α → Picks names l α Ty.empty
   p-seq : {τ τ′ σ σ′ : Ty} → Picks names l τ σ → Picks names l τ′ σ′ → Picks names l (Ty.seq τ τ′) (Ty.seq σ σ′)
   p-choice : {τ τ′ σ σ′ : Ty} → Picks names l τ σ → Picks names l τ′ σ′ → Picks names l (Ty.choice τ τ′) (Ty.choice σ σ′)
   p-star : {τ σ : Ty} → Picks names l τ σ → Picks names l (Ty.star τ) (Ty.star σ)
@@ -97,7 +146,8 @@ module _ (S : Script) where
       h-let : {Γ : Types} {i p q : ℕ} {τ σ : Ty} → queryAt S i ≡ Query.letin p q → Has Γ p τ → Has (Γ ++ τ ∷ []) q σ → Has Γ i σ
       h-if : {Γ : Types} {i p q r : ℕ} {c τ σ : Ty} → queryAt S i ≡ Query.if p q r → Has Γ p c → Within (namesIn S) c Ty.bool → Has Γ q τ → Has Γ r σ → Has Γ i (Ty.choice τ σ)
       h-same : {Γ : Types} {i p q : ℕ} {τ σ : Ty} → queryAt S i ≡ Query.same p q → Has Γ p τ → Has Γ q σ → Within (namesIn S) τ Ty.text → Within (namesIn S) σ Ty.text → Has Γ i Ty.bool
-      h-children : {Γ : Types} {i v n : ℕ} {τ : Ty} → queryAt S i ≡ Query.children v → atomOf (namesIn S) (getD Γ v Ty.empty) ≡ Atom.label n τ → Has Γ i τ
+      h-children : {Γ : Types} {i v n : ℕ} {τ : Ty} → queryAt S i ≡ Query.children v
+          → Labelled (namesIn S) (getD Γ v Ty.empty) n τ → Has Γ i τ
       h-pick : {Γ : Types} {i p l : ℕ} {τ σ : Ty} → queryAt S i ≡ Query.pick p l → Has Γ p τ → Picks (namesIn S) l τ σ → Has Γ i σ
       h-for : {Γ : Types} {i p q : ℕ} {τ σ : Ty} → queryAt S i ≡ Query.for p q → Has Γ p τ → HasEach Γ q τ σ → Has Γ i σ
 
@@ -126,12 +176,16 @@ module _ (S : Script) where
       y-if : {Γ : Types} {i p q r : ℕ} {c τ σ ρ : Ty} → statementAt S i ≡ Statement.if p q r → Has Γ p c → Within (namesIn S) c Ty.bool → Typed Γ q τ σ → Typed Γ r τ ρ → Typed Γ i τ (Ty.choice σ ρ)
       y-insert : {Γ : Types} {i p : ℕ} {τ σ : Ty} → statementAt S i ≡ Statement.insert p → Within (namesIn S) τ Ty.empty → Has Γ p σ → Typed Γ i τ σ
       y-delete : {Γ : Types} {i : ℕ} {τ : Ty} → statementAt S i ≡ Statement.delete → Typed Γ i τ Ty.empty
-      y-rename : {Γ : Types} {i l n : ℕ} {α τ : Ty} → statementAt S i ≡ Statement.rename l → atomOf (namesIn S) α ≡ Atom.label n τ → Typed Γ i α (Ty.label l τ)
+      y-rename : {Γ : Types} {i l n : ℕ} {α τ : Ty} → statementAt S i ≡ Statement.rename l
+          → Labelled (namesIn S) α n τ → Typed Γ i α (Ty.label l τ)
       y-let : {Γ : Types} {i p q : ℕ} {ρ τ σ : Ty} → statementAt S i ≡ Statement.letin p q → Has Γ p ρ → Typed (Γ ++ ρ ∷ []) q τ σ → Typed Γ i τ σ
       y-snapshot : {Γ : Types} {i p : ℕ} {τ σ : Ty} → statementAt S i ≡ Statement.snapshot p → Typed (Γ ++ τ ∷ []) p τ σ → Typed Γ i τ σ
-      y-test : {Γ : Types} {i r : ℕ} {t : Test} {τ σ : Ty} → statementAt S i ≡ Statement.test t r → tests t (atomOf (namesIn S) τ) ≡ matched → Typed Γ r τ σ → Typed Γ i τ σ
-      y-pass : {Γ : Types} {i r : ℕ} {t : Test} {τ : Ty} → statementAt S i ≡ Statement.test t r → tests t (atomOf (namesIn S) τ) ≡ passed → Typed Γ i τ τ
-      y-children : {Γ : Types} {i p n : ℕ} {α τ σ : Ty} → statementAt S i ≡ Statement.children p → atomOf (namesIn S) α ≡ Atom.label n τ → Typed Γ p τ σ → Typed Γ i α (Ty.label n σ)
+      y-test : {Γ : Types} {i r : ℕ} {t : Test} {τ σ : Ty} → statementAt S i ≡ Statement.test t r
+          → TestMatches (namesIn S) t τ → Typed Γ r τ σ → Typed Γ i τ σ
+      y-pass : {Γ : Types} {i r : ℕ} {t : Test} {τ : Ty} → statementAt S i ≡ Statement.test t r
+          → TestDiffers (namesIn S) t τ → Typed Γ i τ τ
+      y-children : {Γ : Types} {i p n : ℕ} {α τ σ : Ty} → statementAt S i ≡ Statement.children p
+          → Labelled (namesIn S) α n τ → Typed Γ p τ σ → Typed Γ i α (Ty.label n σ)
       y-left : {Γ : Types} {i p : ℕ} {τ σ : Ty} → statementAt S i ≡ Statement.left p → Typed Γ p Ty.empty σ → Typed Γ i τ (Ty.seq σ τ)
       y-right : {Γ : Types} {i p : ℕ} {τ σ : Ty} → statementAt S i ≡ Statement.right p → Typed Γ p Ty.empty σ → Typed Γ i τ (Ty.seq τ σ)
       y-iter : {Γ : Types} {i p : ℕ} {τ σ : Ty} → statementAt S i ≡ Statement.iter p → TypedEach Γ p τ σ → Typed Γ i τ σ

@@ -4,6 +4,7 @@ pub mod Tests
 pub mod Turns
 pub mod Forest
 pub mod Walk
+pub mod Figures
 pub mod Barren
 pub mod Pairs
 pub mod Points

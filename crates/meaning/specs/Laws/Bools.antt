@@ -1,7 +1,13 @@
--- Laws of the two-valued tests: `_&&_` and `_||_` taken apart and put together.
+-- Laws of the two-valued tests: `_&&_` and `_||_` taken apart and put together. And what follows where two things that differ are said to be equal.
+use Prim.Native.Nat.{ℕ}
 use mathlib.Core.Path.{_≡_, refl}
 use mathlib.Core.Bool.{Bool, true, false, _&&_, _||_, false≢true}
 use mathlib.Core.Logic.{_⊎_, inl, inr}
+use native.Mathlib.Omega.{arith}
+
+-- anything
+pub never : {A : Type 0} → _≡_ {A = ℕ} 0 1 → A
+never e = absurd (omega arith)
 
 pub or-left : {a : Bool} (b : Bool) → a ≡ true → a || b ≡ true
 or-left b e = rw e

@@ -1,21 +1,20 @@
 -- The check's walk and figures 4 and 13 say the same: what the walk finds is derived, by the closure of `All`; what is derived is found unless Fuel, Depth or Wide ends it, and with levels and units enough only Wide does, by the laws of `Sure`. So the figures derive one type at most, and the whole check accepts what the rules accept.
 use Prim.Native.Nat.{ℕ, zero, suc, _+_, _≤_, _<_}
 use mathlib.Core.Path.{_≡_, refl}
-use mathlib.Core.Bool.{Bool, true, false}
 use mathlib.Core.List.{List, [], _∷_, _++_}
 use mathlib.Core.Logic.{inl, inr}
 use native.Mathlib.Nat.{eq-or-lt-of-le, le-of-suc-le-suc}
 use native.Mathlib.Omega.{arith}
-use lib.Dec.{eqb}
 use lib.ListN.{getD}
 use Rattle.meaning.specs.Limits.{most-depth}
 use Rattle.meaning.specs.Sheet.{Script}
 use Rattle.meaning.specs.Kinds.{Query, Test, Statement, queryAt, statementAt}
 use Rattle.meaning.specs.Types.{Ty, Named, Within, Atom, atomOf, declared, namesIn}
 use Rattle.meaning.specs.Walk.{Stop, Place, of-query, of-statement, ret, _>>=_, Judgement, pass, stop, Verdict, gives, Settles}
-use Rattle.meaning.specs.Run.{Fate, misfit, matched, passed, if-so, arguments}
+use Rattle.meaning.specs.Run.{Fate, misfit, matched, passed, arguments}
 use Rattle.meaning.specs.Check.{Question, Judged, too-wide, holds, fails, Asking, Types, parts, tests, picked, test-type, rename-type, children-type, inside-type, ask-all, query-type, statement-type, declaration, infer, typing, body, bodies, check-walk}
 use Rattle.meaning.specs.Figures.{Atomic, is-text, is-bool, is-label, is-name, Picks, p-empty, p-kept, p-away, p-seq, p-choice, p-star, Has, h-empty, h-join, h-tree, h-text, h-bool, h-variable, h-let, h-if, h-same, h-children, h-pick, h-for, HasEach, e-empty, e-atom, e-seq, e-choice, e-star, HasAll, has-none, has-more, Lie, lie-none, lie-more, Typed, y-skip, y-then, y-if, y-insert, y-delete, y-rename, y-let, y-snapshot, y-test, y-pass, y-children, y-left, y-right, y-iter, y-call, TypedEach, i-empty, i-atom, i-seq, i-choice, i-star, Passes, Accepts}
+use Rattle.meaning.specs.Laws.Figures.{labelled-atom, atom-labelled, matches-atom, matches-tests, tests-matches, differs-tests, tests-differs, atom-fits}
 use Rattle.meaning.specs.Laws.Walk.{Single, All, all-given, all-then, all-map}
 use Rattle.meaning.specs.Laws.Sure.{Spent, Found, Ended, ended-found, Costs, costs-then, costs-ended, Sure, sure-ret, sure-tick, sure-ask, sure-row, sure-then, sure-ended, sure-found, sure-costs, sure-one}
 
@@ -55,32 +54,16 @@ module _ (J : Question → Judgement → Type 0) (P : Ty → Ty → Type 0) (go 
   parts-all (Ty.choice τ σ) = all-then J (P τ) _ (parts go τ) _ (parts-all τ) λ x a. all-then J (P σ) _ (parts go σ) _ (parts-all σ) λ y b. choices τ σ x y a b
   parts-all (Ty.star τ) = all-then J (P τ) _ (parts go τ) _ (parts-all τ) λ x a. stars τ x a
 
--- an atom is kept or picked away: it is no misfit
-abbrev Fits : Fate → Type 0
-Fits misfit = ⊥
-Fits matched = Unit {0}
-Fits passed = Unit {0}
-
-if-so-fits : (b : Bool) → Fits (if-so b)
-if-so-fits true = tt
-if-so-fits false = tt
-
-atom-fits : (names : ℕ → Named) (l : ℕ) {α : Ty} → Atomic α → Fits (tests (Test.label l) (atomOf names α))
-unfolding tests atomOf
-atom-fits names l is-text = tt
-atom-fits names l is-bool = tt
-atom-fits names l (is-label {n = n}) = if-so-fits (eqb n l)
-atom-fits names l (is-name {x = x}) = if-so-fits (eqb (names x .label) l)
-
 module _ (J : Question → Judgement → Type 0) (names : ℕ → Named) (l : ℕ) where
-  picked-all : (α : Ty) → Atomic α → (k : Fate) → tests (Test.label l) (atomOf names α) ≡ k → Fits k → All J (Picks names l α) (picked k α)
+  -- an atom is kept or picked away
+  picked-all : (α : Ty) → Atomic α → (k : Fate) → tests (Test.label l) (atomOf names α) ≡ k → All J (Picks names l α) (picked k α)
   unfolding picked All
-  picked-all α a misfit e h = absurd h
-  picked-all α a matched e h = p-kept a e
-  picked-all α a passed e h = p-away a e
+  picked-all α a misfit e = absurd (atom-fits names a (Test.label l) e)
+  picked-all α a matched e = p-kept (tests-matches names (Test.label l) α e)
+  picked-all α a passed e = p-away (tests-differs names (Test.label l) α e)
 
   picks-all : (τ : Ty) → All J (Picks names l τ) (parts (λ α. picked (tests (Test.label l) (atomOf names α)) α) τ)
-  picks-all = parts-all J (Picks names l) _ p-empty (λ α a. picked-all α a _ refl (atom-fits names l a)) (λ _ _ _ _ a b. p-seq a b) (λ _ _ _ _ a b. p-choice a b) (λ _ _ a. p-star a)
+  picks-all = parts-all J (Picks names l) _ p-empty (λ α a. picked-all α a _ refl) (λ _ _ _ _ a b. p-seq a b) (λ _ _ _ _ a b. p-choice a b) (λ _ _ a. p-star a)
 
 -- ---- what the walk finds is derived
 
@@ -98,7 +81,7 @@ module _ (S : Script) where
     inside-all i v e Atom.no-atom h = tt
     inside-all i v e Atom.text h = tt
     inside-all i v e Atom.bool h = tt
-    inside-all i v e (Atom.label n τ) h = h-children e h
+    inside-all i v e (Atom.label n τ) h = h-children e (atom-labelled (namesIn S) _ n τ h)
 
     query-all : (i : ℕ) (c : Query) → queryAt S i ≡ c → All J (Has S Γ i) (query-type (namesIn S) c i go Γ)
     unfolding query-type All
@@ -139,22 +122,22 @@ module _ (S : Script) where
     test-all : (t : Test) (r : ℕ) → statementAt S i ≡ Statement.test t r → (k : Fate) → tests t (atomOf (namesIn S) τ) ≡ k → All J (Typed S Γ i τ) (test-type (of-statement i) k τ (go Γ r))
     unfolding test-type All
     test-all t r e misfit h = tt
-    test-all t r e matched h = all-map J _ _ (go Γ r τ) (ih Γ r τ) λ σ a. y-test e h a
-    test-all t r e passed h = y-pass e h
+    test-all t r e matched h = all-map J _ _ (go Γ r τ) (ih Γ r τ) λ σ a. y-test e (tests-matches (namesIn S) t τ h) a
+    test-all t r e passed h = y-pass e (tests-differs (namesIn S) t τ h)
 
     rename-all : (l : ℕ) → statementAt S i ≡ Statement.rename l → (k : Atom) → atomOf (namesIn S) τ ≡ k → All J (Typed S Γ i τ) (rename-type (of-statement i) l k)
     unfolding rename-type All
     rename-all l e Atom.no-atom h = tt
     rename-all l e Atom.text h = tt
     rename-all l e Atom.bool h = tt
-    rename-all l e (Atom.label n σ) h = y-rename e h
+    rename-all l e (Atom.label n σ) h = y-rename e (atom-labelled (namesIn S) τ n σ h)
 
     children-all : (p : ℕ) → statementAt S i ≡ Statement.children p → (k : Atom) → atomOf (namesIn S) τ ≡ k → All J (Typed S Γ i τ) (children-type (of-statement i) k (go Γ p))
     unfolding children-type All
     children-all p e Atom.no-atom h = tt
     children-all p e Atom.text h = tt
     children-all p e Atom.bool h = tt
-    children-all p e (Atom.label n σ) h = all-then J _ _ (go Γ p σ) _ (ih Γ p σ) λ x a. y-children e h a
+    children-all p e (Atom.label n σ) h = all-then J _ _ (go Γ p σ) _ (ih Γ p σ) λ x a. y-children e (atom-labelled (namesIn S) τ n σ h) a
 
     iter-all : (p : ℕ) (σ : Ty) → All J (TypedEach S Γ p σ) (parts (go Γ p) σ)
     iter-all p = parts-all J (TypedEach S Γ p) (go Γ p) i-empty (λ α a. all-map J (Typed S Γ p α) _ (go Γ p α) (ih Γ p α) λ y b. i-atom a b) (λ _ _ _ _ a b. i-seq a b) (λ _ _ _ _ a b. i-choice a b) (λ _ _ a. i-star a)
@@ -252,8 +235,8 @@ module _ (S : Script) where
   picks-sure : (l : ℕ) {τ σ : Ty} → Picks (namesIn S) l τ σ → Sure Met σ (λ d. parts (λ α. picked (tests (Test.label l) (atomOf (namesIn S) α)) α) τ)
   unfolding parts picked
   picks-sure l p-empty = sure-tick (sure-ret refl)
-  picks-sure l (p-kept a e) = atom-sure _ a (rw e (sure-ret refl))
-  picks-sure l (p-away a e) = atom-sure _ a (rw e (sure-tick (sure-ret refl)))
+  picks-sure l (p-kept m) = atom-sure _ (matches-atom (namesIn S) m) (rw (matches-tests (namesIn S) m) (sure-ret refl))
+  picks-sure l (p-away d) = atom-sure _ (d .atom) (rw (differs-tests (namesIn S) d) (sure-tick (sure-ret refl)))
   picks-sure l (p-seq a b) = sure-tick (sure-then _ (picks-sure l a) (sure-then _ (picks-sure l b) (sure-tick (sure-ret refl))))
   picks-sure l (p-choice a b) = sure-tick (sure-then _ (picks-sure l a) (sure-then _ (picks-sure l b) (sure-tick (sure-ret refl))))
   picks-sure l (p-star a) = sure-tick (sure-then _ (picks-sure l a) (sure-tick (sure-ret refl)))
@@ -275,7 +258,7 @@ module _ (S : Script) where
     has-sure (h-let e a b) = infer-row _ _ _ e (sure-then _ (has-sure a) (has-sure b))
     has-sure (h-if e a h b c) = infer-row _ _ _ e (sure-then _ (has-sure a) (sure-ask _ h (sure-then _ (has-sure b) (sure-then _ (has-sure c) (sure-tick (sure-ret refl))))))
     has-sure (h-same e a b h k) = infer-row _ _ _ e (sure-then _ (has-sure a) (sure-then _ (has-sure b) (sure-ask _ h (sure-ask _ k (sure-tick (sure-ret refl))))))
-    has-sure (h-children e h) = infer-row _ _ _ e (rw h (sure-ret refl))
+    has-sure (h-children e h) = infer-row _ _ _ e (rw (labelled-atom (namesIn S) h) (sure-ret refl))
     has-sure (h-pick {l = l} e a b) = infer-row _ _ _ e (sure-then _ (has-sure a) (picks-sure l b))
     has-sure (h-for e a b) = infer-row _ _ _ e (sure-then _ (has-sure a) (each-sure b))
 
@@ -309,12 +292,12 @@ module _ (S : Script) where
     typed-sure (y-if e a h b c) = typing-row _ _ _ _ e (sure-then _ (has-sure a) (sure-ask _ h (sure-then _ (typed-sure b) (sure-then _ (typed-sure c) (sure-tick (sure-ret refl))))))
     typed-sure (y-insert e h a) = typing-row _ _ _ _ e (sure-ask _ h (has-sure a))
     typed-sure (y-delete e) = typing-row _ _ _ _ e (sure-tick (sure-ret refl))
-    typed-sure (y-rename e h) = typing-row _ _ _ _ e (rw h (sure-tick (sure-ret refl)))
+    typed-sure (y-rename e h) = typing-row _ _ _ _ e (rw (labelled-atom (namesIn S) h) (sure-tick (sure-ret refl)))
     typed-sure (y-let e a b) = typing-row _ _ _ _ e (sure-then _ (has-sure a) (typed-sure b))
     typed-sure (y-snapshot e a) = typing-row _ _ _ _ e (typed-sure a)
-    typed-sure (y-test e h a) = typing-row _ _ _ _ e (rw h (typed-sure a))
-    typed-sure (y-pass e h) = typing-row _ _ _ _ e (rw h (sure-ret refl))
-    typed-sure (y-children e h a) = typing-row _ _ _ _ e (rw h (sure-then _ (typed-sure a) (sure-tick (sure-ret refl))))
+    typed-sure (y-test e h a) = typing-row _ _ _ _ e (rw (matches-tests (namesIn S) h) (typed-sure a))
+    typed-sure (y-pass e h) = typing-row _ _ _ _ e (rw (differs-tests (namesIn S) h) (sure-ret refl))
+    typed-sure (y-children e h a) = typing-row _ _ _ _ e (rw (labelled-atom (namesIn S) h) (sure-then _ (typed-sure a) (sure-tick (sure-ret refl))))
     typed-sure (y-left e a) = typing-row _ _ _ _ e (sure-then _ (typed-sure a) (sure-tick (sure-ret refl)))
     typed-sure (y-right e a) = typing-row _ _ _ _ e (sure-then _ (typed-sure a) (sure-tick (sure-ret refl)))
     typed-sure (y-iter e a) = typing-row _ _ _ _ e (iter-sure a)

@@ -1,6 +1,6 @@
 -- The run's walk and figures 3 and 12 say the same: what the walk gives is derived, by the closure of `All`; what is derived is given unless Fuel or Depth ends it, and is given with levels and units enough, by the laws of `Sure`. So the figures derive one value at most.
 use Prim.Native.Nat.{ℕ, zero, suc, _+_, _≤_}
-use mathlib.Core.Path.{_≡_, refl}
+use mathlib.Core.Path.{_≡_, refl, ap}
 use mathlib.Core.Bool.{true, false}
 use mathlib.Core.List.{List, [], _∷_, _++_}
 use Rattle.meaning.specs.Limits.{most-depth}
@@ -10,6 +10,7 @@ use Rattle.meaning.specs.Forest.{Tree, Forest, nil, cons, only, _⊕_, c
 use Rattle.meaning.specs.Walk.{Place, of-query, of-statement, ret, pay, _>>=_, Verdict, gives, Quiet, Unasked, Settles}
 use Rattle.meaning.specs.Run.{Env, Seen, seen, Fate, misfit, matched, passed, tested, kept, each, branch, same-texts, query-of, insert-of, rename-of, test-of, children-of, arguments, statement-of, query, statement, run-walk}
 use Rattle.meaning.specs.Figures.{Gives, g-empty, g-join, g-tree, g-text, g-bool, g-variable, g-let, g-if-true, g-if-false, g-same, g-children, g-pick, g-for, GivesEach, each-none, each-tree, GivesAll, all-none, all-more, Takes, t-skip, t-then, t-if-true, t-if-false, t-insert, t-delete, t-rename, t-let, t-snapshot, t-test, t-pass, t-children, t-left, t-right, t-iter, t-call, TakesEach, iter-none, iter-tree}
+use Rattle.meaning.specs.Laws.Figures.{matches-tested, tested-matches, differs-tested, tested-differs, inside-is, inside-one, kept-is, kept-one, same-is, same-one}
 use Rattle.meaning.specs.Laws.Walk.{All, all-given, all-then, all-map, all-pay}
 use Rattle.meaning.specs.Laws.Sure.{Spent, Found, Sure, sure-ret, sure-tick, sure-pay, sure-row, sure-then, sure-found, sure-gives, sure-one}
 
@@ -63,7 +64,7 @@ module _ (S : Script) (byte : ℕ → ℕ) where
     same-all i p q e (cons (Tree.text w) nil) (cons (Tree.bool c) nil) a b = tt
     same-all i p q e (cons (Tree.text w) nil) (cons (Tree.node n f) nil) a b = tt
     same-all i p q e (cons (Tree.text w) nil) (cons t (cons u f)) a b = tt
-    same-all i p q e (cons (Tree.text w) nil) (cons (Tree.text v) nil) a b = g-same e a b
+    same-all i p q e (cons (Tree.text w) nil) (cons (Tree.text v) nil) a b = g-same e a b (same-is w v)
 
     for-all : (q : ℕ) (f : Forest) → Ever (GivesEach S byte γ q f) (each (λ t. go (γ ++ t ∷ []) q) f)
     for-all q = each-all (GivesEach S byte γ q) _ each-none λ t f. all-map Unasked _ _ (go (γ ++ only t ∷ []) q) (ih (γ ++ only t ∷ []) q) λ x a y b. each-tree a b
@@ -80,8 +81,8 @@ module _ (S : Script) (byte : ℕ → ℕ) where
     query-all i (Query.letin p q) e = all-then Unasked _ _ (go γ p) _ (ih γ p) λ x a. all-map Unasked _ _ (go (γ ++ x ∷ []) q) (ih (γ ++ x ∷ []) q) λ y b. g-let e a b
     query-all i (Query.if p q r) e = all-then Unasked _ _ (go γ p) _ (ih γ p) λ x a. branch-all _ (of-query i) x (go γ q) (go γ r) (λ h. all-map Unasked _ _ (go γ q) (ih γ q) λ y b. g-if-true e (rw h at a) b) (λ h. all-map Unasked _ _ (go γ r) (ih γ r) λ y b. g-if-false e (rw h at a) b)
     query-all i (Query.same p q) e = all-then Unasked _ _ (go γ p) _ (ih γ p) λ x a. all-then Unasked _ _ (go γ q) _ (ih γ q) λ y b. same-all i p q e x y a b
-    query-all i (Query.children v) e = g-children e refl
-    query-all i (Query.pick p l) e = all-then Unasked _ _ (go γ p) _ (ih γ p) λ x a. all-pay Unasked _ (count (kept l x)) (ret (kept l x)) (g-pick e a refl)
+    query-all i (Query.children v) e = g-children e (inside-is _)
+    query-all i (Query.pick p l) e = all-then Unasked _ _ (go γ p) _ (ih γ p) λ x a. all-pay Unasked _ (count (kept l x)) (ret (kept l x)) (g-pick e a (kept-is l x))
     query-all i (Query.for p q) e = all-then Unasked _ _ (go γ p) _ (ih γ p) λ x a. all-map Unasked _ _ (each (λ t. go (γ ++ t ∷ []) q) x) (for-all q x) λ y b. g-for e a b
 
     arguments-all : (l : List ℕ) → Ever (GivesAll S byte γ l) (arguments (go γ) l)
@@ -113,8 +114,8 @@ module _ (S : Script) (byte : ℕ → ℕ) where
     fate-all : (t : Test) (r : ℕ) → statementAt S i ≡ Statement.test t r → (u : Tree) (k : Fate) → tested t (seen (only u)) ≡ k → Ever (Takes S byte γ i (only u)) (test-of (of-statement i) k (only u) (go γ r))
     unfolding test-of All
     fate-all t r e u misfit h = tt
-    fate-all t r e u matched h = all-map Unasked _ _ (go γ r (only u)) (ih γ r (only u)) λ x a. t-test e h a
-    fate-all t r e u passed h = t-pass e h
+    fate-all t r e u matched h = all-map Unasked _ _ (go γ r (only u)) (ih γ r (only u)) λ x a. t-test e (tested-matches t u h) a
+    fate-all t r e u passed h = t-pass e (tested-differs t u h)
 
     test-all : (t : Test) (r : ℕ) → statementAt S i ≡ Statement.test t r → (f : Forest) → Ever (Takes S byte γ i f) (test-of (of-statement i) (tested t (seen f)) f (go γ r))
     unfolding test-of seen All
@@ -184,9 +185,9 @@ module _ (S : Script) (byte : ℕ → ℕ) where
     | g-let e (_ → a) (_ → b) ↦ query-row _ _ _ e (sure-then _ a b)
     | g-if-true e (_ → a) (_ → b) ↦ query-row _ _ _ e (sure-then _ a b)
     | g-if-false e (_ → a) (_ → b) ↦ query-row _ _ _ e (sure-then _ a b)
-    | g-same e (_ → a) (_ → b) ↦ query-row _ _ _ e (sure-then _ a (sure-then _ b (sure-pay _ (sure-ret refl))))
-    | g-children e h ↦ query-row _ _ _ e (sure-ret h)
-    | g-pick e (_ → a) h ↦ query-row _ _ _ e (sure-then _ a (sure-pay _ (sure-ret h)))
+    | g-same e (_ → a) (_ → b) h ↦ query-row _ _ _ e (sure-then _ a (sure-then _ b (sure-pay _ (sure-ret (ap (λ b. only (Tree.bool b)) (same-one h))))))
+    | g-children e h ↦ query-row _ _ _ e (sure-ret (inside-one h))
+    | g-pick e (_ → a) h ↦ query-row _ _ _ e (sure-then _ a (sure-pay _ (sure-ret (kept-one h))))
     | g-for e (_ → a) (_ → b) ↦ query-row _ _ _ e (sure-then _ a b)
     | each-none ↦ sure-ret refl
     | each-tree (_ → a) (_ → b) ↦ sure-tick (sure-then _ a (sure-pay _ (sure-then _ b (sure-ret refl))))
@@ -213,8 +214,8 @@ module _ (S : Script) (byte : ℕ → ℕ) where
     | t-rename e ↦ statement-row _ _ _ _ e (sure-pay _ (sure-ret refl))
     | t-let e a (_ → b) ↦ statement-row _ _ _ _ e (sure-then _ (gives-sure a) b)
     | t-snapshot e (_ → a) ↦ statement-row _ _ _ _ e a
-    | t-test e h (_ → a) ↦ statement-row _ _ _ _ e (rw h a)
-    | t-pass e h ↦ statement-row _ _ _ _ e (rw h (sure-ret refl))
+    | t-test e h (_ → a) ↦ statement-row _ _ _ _ e (rw (matches-tested h) a)
+    | t-pass {t = t} {u = u} e h ↦ statement-row _ _ _ _ e (rw (differs-tested t u h) (sure-ret refl))
     | t-children e (_ → a) ↦ statement-row _ _ _ _ e (sure-then _ a (sure-pay _ (sure-ret refl)))
     | t-left e (_ → a) ↦ statement-row _ _ _ _ e (sure-then _ a (sure-pay _ (sure-ret refl)))
     | t-right e (_ → a) ↦ statement-row _ _ _ _ e (sure-then _ a (sure-pay _ (sure-ret refl)))

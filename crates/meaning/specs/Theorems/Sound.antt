@@ -19,9 +19,10 @@ use Rattle.meaning.specs.Reply.{Refusal, scratch, room, Answer, done, re
 use Rattle.meaning.specs.Theorems.ReadBack.{lentRow, given-back}
 use Rattle.meaning.specs.Theorems.ExactCheck.{accepted}
 use Rattle.meaning.specs.Theorems.Single.{one-load, done-loads}
+use Rattle.meaning.specs.Laws.Bools.{never}
 use Rattle.meaning.specs.Laws.Agree.{SameTables, same-script}
 use Rattle.meaning.specs.Theorems.Steady.{withRunFuel, alike-script, alike-grove, run-alike, run-fuel-loads}
-use Rattle.meaning.specs.Theorems.Sound.Judgments.{never, Ends, with-forest, short-of-fuel, short-of-depth, fit-none, typed-sound}
+use Rattle.meaning.specs.Theorems.Sound.Judgments.{Ends, with-forest, short-of-fuel, short-of-depth, fit-none, typed-sound}
 use Rattle.meaning.specs.Theorems.Sound.Written.{loads-shapely, calls-named, given-writable}
 use Rattle.meaning.specs.Theorems.Sound.Unstuck.{check-unstuck, fit-unstuck}
 

@@ -5,7 +5,6 @@ use mathlib.Core.Path.{_≡_, refl, sym, _∙_, ap, subst}
 use mathlib.Core.Bool.{Bool, true, false, cond}
 use mathlib.Core.List.{List, [], _∷_, _++_}
 use mathlib.Core.Logic.{_⊎_, inl, inr}
-use native.Mathlib.Omega.{arith}
 use lib.Dec.{eqb}
 use lib.ListN.{getD}
 use Rattle.meaning.specs.Tests.{inTable}
@@ -16,7 +15,9 @@ use Rattle.meaning.specs.Types.{Ty, Named, Of, of-empty, of-text, of-boo
 use Rattle.meaning.specs.Walk.{Stop, depth, wide, mismatch, outside, stuck, Place, ret, _>>=_, pay, Quiet, Unasked, Verdict, gives, fuel, stops, settle}
 use Rattle.meaning.specs.Run.{Env, seen, Fate, misfit, matched, passed, tested, inside, kept, copied, each, branch, same-texts, query-of, insert-of, rename-of, test-of, children-of, arguments, statement-of, query, statement}
 use Rattle.meaning.specs.Check.{Types, tests, declaration, body}
-use Rattle.meaning.specs.Figures.{Atomic, is-text, is-bool, is-label, is-name, Picks, p-empty, p-kept, p-away, p-seq, p-choice, p-star, Has, h-empty, h-join, h-tree, h-text, h-bool, h-variable, h-let, h-if, h-same, h-children, h-pick, h-for, HasEach, e-empty, e-atom, e-seq, e-choice, e-star, HasAll, has-none, has-more, Lie, lie-none, lie-more, Typed, y-skip, y-then, y-if, y-insert, y-delete, y-rename, y-let, y-snapshot, y-test, y-pass, y-children, y-left, y-right, y-iter, y-call, TypedEach, i-empty, i-atom, i-seq, i-choice, i-star, Passes}
+use Rattle.meaning.specs.Figures.{k-none, k-tree, k-other, Atomic, is-text, is-bool, is-label, is-name, Picks, p-empty, p-kept, p-away, p-seq, p-choice, p-star, Has, h-empty, h-join, h-tree, h-text, h-bool, h-variable, h-let, h-if, h-same, h-children, h-pick, h-for, HasEach, e-empty, e-atom, e-seq, e-choice, e-star, HasAll, has-none, has-more, Lie, lie-none, lie-more, Typed, y-skip, y-then, y-if, y-insert, y-delete, y-rename, y-let, y-snapshot, y-test, y-pass, y-children, y-left, y-right, y-iter, y-call, TypedEach, i-empty, i-atom, i-seq, i-choice, i-star, Passes}
+use Rattle.meaning.specs.Laws.Bools.{never}
+use Rattle.meaning.specs.Laws.Figures.{tested-matches, tested-differs, kept-one, no-atom, labelled-atom, matches-atom, matches-tests, differs-tests}
 use Rattle.meaning.specs.Laws.Tests.{table-low, table-high}
 use Rattle.meaning.specs.Laws.Forest.{⊕-nil, ⊕-assoc}
 use Rattle.meaning.specs.Laws.Walk.{then-ret, then-assoc, pay-then, settle-settles, Fair, Safe, safe-fair, safe-then, safe-pay, safe-map}
@@ -88,16 +89,7 @@ module _ (body : Forest → Quiet Forest) where
 
 -- ---- what the atoms of a type say of its forests
 
-pub never : {A : Type 0} → _≡_ {A = ℕ} 0 1 → A
-never e = absurd (omega arith)
-
--- a test that finds no atom, and one that finds the tree's own
-no-atom : (t : Test) → tests t Atom.no-atom ≡ misfit
-unfolding tests
-no-atom Test.text = refl
-no-atom Test.any = refl
-no-atom (Test.label l) = refl
-
+-- a test that finds the tree's own atom
 on-text : (w : Text) (t : Test) → tested t (seen (only (Tree.text w))) ≡ tests t Atom.text
 unfolding tests tested seen
 on-text w Test.text = refl
@@ -128,25 +120,11 @@ kept-⊕ l (cons (Tree.node n k) f) g = go (eqb n l) (kept-⊕ l f g)
     go true h = ap (cons (Tree.node n k)) h
     go false h = h
 
-kept-one : (l : ℕ) (t : Tree) → tested (Test.label l) (seen (only t)) ≡ matched → kept l (only t) ≡ only t
-unfolding kept tested seen
-kept-one l (Tree.text w) e = never (cc)
-kept-one l (Tree.bool b) e = never (cc)
-kept-one l (Tree.node n f) e = go (eqb n l) e
-  where
-    go : (b : Bool) → cond b matched passed ≡ matched → cond b (only (Tree.node n f)) nil ≡ only (Tree.node n f)
-    go true e = refl
-    go false e = never (cc)
+kept-tree : (l : ℕ) (t : Tree) → tested (Test.label l) (seen (only t)) ≡ matched → kept l (only t) ≡ only t
+kept-tree l t e = kept-one (k-tree (tested-matches (Test.label l) t e) k-none)
 
-away-one : (l : ℕ) (t : Tree) → tested (Test.label l) (seen (only t)) ≡ passed → kept l (only t) ≡ nil
-unfolding kept tested seen
-away-one l (Tree.text w) e = refl
-away-one l (Tree.bool b) e = refl
-away-one l (Tree.node n f) e = go (eqb n l) e
-  where
-    go : (b : Bool) → cond b matched passed ≡ passed → cond b (only (Tree.node n f)) nil ≡ nil
-    go true e = never (cc)
-    go false e = refl
+away-tree : (l : ℕ) (t : Tree) → tested (Test.label l) (seen (only t)) ≡ passed → kept l (only t) ≡ nil
+away-tree l t e = kept-one (k-other (tested-differs (Test.label l) t e) k-none)
 
 good-matched : (P : Forest → Type 0) (at : Place) {k : Fate} → k ≡ matched → (f : Forest) (go : Forest → Quiet Forest) → Good P (go f) → Good P (test-of at k f go)
 unfolding test-of
@@ -205,8 +183,8 @@ module _ (names : ℕ → Named) where
   picked-of : (l : ℕ) {τ σ : Ty} {f : Forest} → Picks names l τ σ → Of names τ f → Of names σ (kept l f)
   unfolding kept
   picked-of l p-empty of-empty = of-empty
-  picked-of l (p-kept {α = α} a e) o = let x = one-tree a o in let u = rw (x .1) at o in rw (x .1, kept-one l (x .0) (is-matched α u (Test.label l) e)) u
-  picked-of l (p-away {α = α} a e) o = let x = one-tree a o in let u = rw (x .1) at o in rw (x .1, away-one l (x .0) (is-passed α u (Test.label l) e)) of-empty
+  picked-of l (p-kept {α = α} m) o = let x = one-tree (matches-atom names m) o in let u = rw (x .1) at o in rw (x .1, kept-tree l (x .0) (is-matched α u (Test.label l) (matches-tests names m))) u
+  picked-of l (p-away {α = α} d) o = let x = one-tree (d .atom) o in let u = rw (x .1) at o in rw (x .1, away-tree l (x .0) (is-passed α u (Test.label l) (differs-tests names d))) of-empty
   picked-of l (p-seq h k) (of-seq {f = f} {g = g} o u) = rw (kept-⊕ l f g) (of-seq (picked-of l h o) (picked-of l k u))
   picked-of l (p-choice h k) (of-left o) = of-left (picked-of l h o)
   picked-of l (p-choice h k) (of-right o) = of-right (picked-of l k o)
@@ -303,7 +281,7 @@ module _ (S : Script) (byte : ℕ → ℕ) where
     good-query i (h-same {p = p} {q = q} {τ = τ} {σ = σ} e a b v w) = row _ i _ e (
         good-then (Is τ) _ (go γ p) _ (ih Γ γ p τ a env) λ x o. good-then (Is σ) _ (go γ q) _ (ih Γ γ q σ b env) λ y u. good-same (namesIn S) _ (v x o) (w y u))
     good-query i (h-children {v = v} {n = n} {τ = τ} e a) = row _ i _ e (
-        inside-of (namesIn S) (getD Γ v Ty.empty) (fit-at (namesIn S) env v) n τ a)
+        inside-of (namesIn S) (getD Γ v Ty.empty) (fit-at (namesIn S) env v) n τ (labelled-atom (namesIn S) a))
     good-query i (h-pick {p = p} {l = l} {τ = τ} e a k) = row _ i _ e (good-then (Is τ) _ (go γ p) _ (ih Γ γ p τ a env) λ x o. good-copy _ (count (kept l x)) _ (picked-of (namesIn S) l k o))
     good-query i (h-for {p = p} {q = q} {τ = τ} e a h) = row _ i _ e (good-then (Is τ) _ (go γ p) _ (ih Γ γ p τ a env) λ x o. good-for q h o)
 
@@ -354,13 +332,13 @@ module _ (S : Script) (byte : ℕ → ℕ) where
           (good-map (Is σ) _ (go γ q f) (ih Γ γ q τ σ f b env o) λ y v. of-left v) (good-map (Is ρ) _ (go γ r f) (ih Γ γ r τ ρ f d env o) λ y v. of-right v))
       good-statement i f (y-insert {p = p} {σ = σ} e w a) o = row-does _ i f _ e (good-insert (namesIn S) _ _ (w f o) (asks γ p) (ah Γ γ p σ a env))
       good-statement i f (y-delete e) o = row-does _ i f _ e of-empty
-      good-statement i f (y-rename {l = l} {n = n} {α = α} {τ = τ} e a) o = row-does _ i f _ e (good-rename (namesIn S) _ l α o n τ a)
+      good-statement i f (y-rename {l = l} {n = n} {α = α} {τ = τ} e a) o = row-does _ i f _ e (good-rename (namesIn S) _ l α o n τ (labelled-atom (namesIn S) a))
       good-statement i f (y-let {p = p} {q = q} {ρ = ρ} {τ = τ} {σ = σ} e a b) o = row-does _ i f _ e (
           good-then (Is ρ) _ (asks γ p) _ (ah Γ γ p ρ a env) λ x u. ih (Γ ++ ρ ∷ []) (γ ++ x ∷ []) q τ σ f b (fit-also (namesIn S) env u) o)
       good-statement i f (y-snapshot {p = p} {τ = τ} {σ = σ} e a) o = row-does _ i f _ e (ih (Γ ++ τ ∷ []) (γ ++ f ∷ []) p τ σ f a (fit-also (namesIn S) env o) o)
-      good-statement i f (y-test {r = r} {t = t} {τ = τ} {σ = σ} e m a) o = row-does _ i f _ e (good-matched (Is σ) _ (is-matched (namesIn S) τ o t m) f (go γ r) (ih Γ γ r τ σ f a env o))
-      good-statement i f (y-pass {r = r} {t = t} {τ = τ} e m) o = row-does _ i f _ e (good-passed (Is τ) _ (is-passed (namesIn S) τ o t m) f (go γ r) o)
-      good-statement i f (y-children {p = p} {n = n} {α = α} {τ = τ} {σ = σ} e m a) o = row-does _ i f _ e (good-children (namesIn S) _ (go γ p) α o n τ σ m λ g u. ih Γ γ p τ σ g a env u)
+      good-statement i f (y-test {r = r} {t = t} {τ = τ} {σ = σ} e m a) o = row-does _ i f _ e (good-matched (Is σ) _ (is-matched (namesIn S) τ o t (matches-tests (namesIn S) m)) f (go γ r) (ih Γ γ r τ σ f a env o))
+      good-statement i f (y-pass {r = r} {t = t} {τ = τ} e m) o = row-does _ i f _ e (good-passed (Is τ) _ (is-passed (namesIn S) τ o t (differs-tests (namesIn S) m)) f (go γ r) o)
+      good-statement i f (y-children {p = p} {n = n} {α = α} {τ = τ} {σ = σ} e m a) o = row-does _ i f _ e (good-children (namesIn S) _ (go γ p) α o n τ σ (labelled-atom (namesIn S) m) λ g u. ih Γ γ p τ σ g a env u)
       good-statement i f (y-left {p = p} {σ = σ} e a) o = row-does _ i f _ e (good-then (Is σ) _ (go γ p nil) _ (ih Γ γ p Ty.empty σ nil a env of-empty) λ x u. good-copy _ (count x) _ (of-seq u o))
       good-statement i f (y-right {p = p} {σ = σ} e a) o = row-does _ i f _ e (good-then (Is σ) _ (go γ p nil) _ (ih Γ γ p Ty.empty σ nil a env of-empty) λ x u. good-copy _ (count f) _ (of-seq o u))
       good-statement i f (y-iter {p = p} e a) o = row-does _ i f _ e (good-iter p a o)

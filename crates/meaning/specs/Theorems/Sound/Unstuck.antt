@@ -12,7 +12,7 @@ use Rattle.meaning.specs.Run.{Fate, misfit, matched, passed, arguments}
 use Rattle.meaning.specs.Check.{Question, Number, eight, nine, unmet, Judged, too-wide, fails, Asking, Types, parts, tests, picked, inside-type, rename-type, children-type, test-type, ask-all, query-type, statement-type, declaration, infer, typing, body, bodies, check-walk}
 use Rattle.meaning.specs.Reply.{Refusal, Answer, refused, verdict-answer, Loads, misshapen, is-barren, is-tied, sound, Checked, walked, Fitted, no-row, fits, misfits}
 use Rattle.meaning.specs.Laws.Walk.{Fair, Safe, safe-fair, safe-then}
-use Rattle.meaning.specs.Theorems.Sound.Judgments.{never}
+use Rattle.meaning.specs.Laws.Bools.{never}
 
 -- ---- a check is never stuck either
 

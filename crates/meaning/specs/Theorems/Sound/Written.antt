@@ -1,20 +1,19 @@
 -- The forest that a run gives can be written out as rows and read back: its texts lie in the pool, and its numbers are words. By what Shape says of each row, and on the derivation of the run.
 use Prim.Native.Nat.{ℕ, zero, suc, _+_, _≤_, _<_}
 use mathlib.Core.Path.{_≡_, refl}
-use mathlib.Core.Bool.{Bool, true, false, cond}
+use mathlib.Core.Bool.{Bool, true, false}
 use mathlib.Core.List.{List, [], _∷_, _++_}
 use native.Mathlib.Omega.{arith}
-use lib.Dec.{eqb}
 use lib.ListN.{getD}
 use borrow.Author.Tests.{leb-true, ltb-true, eqb-true}
 use Rattle.meaning.specs.Tests.{inTable}
 use Rattle.meaning.specs.Limits.{most-depth, last-label, most-pool}
 use Rattle.meaning.specs.Sheet.{Cells, Script, Grove, Sheet, queries-of, statements-of, rows-of, scriptOf, groveOf, sheetOf}
 use Rattle.meaning.specs.Kinds.{Query, Statement, queryForm, statementForm, queryAt, statementAt}
-use Rattle.meaning.specs.Forest.{Tree, Forest, nil, cons, only, _⊕_, treeForm, forest, forestAt, forestOf}
+use Rattle.meaning.specs.Forest.{Forest, nil, cons, only, _⊕_, treeForm, forest, forestAt, forestOf}
 use Rattle.meaning.specs.Walk.{Unasked, gives, Settles}
-use Rattle.meaning.specs.Run.{Env, seen, inside, kept, run-walk}
-use Rattle.meaning.specs.Figures.{Gives, g-empty, g-join, g-tree, g-text, g-bool, g-variable, g-let, g-if-true, g-if-false, g-same, g-children, g-pick, g-for, each-none, each-tree, GivesAll, all-none, all-more, Takes, t-skip, t-then, t-if-true, t-if-false, t-insert, t-delete, t-rename, t-let, t-snapshot, t-test, t-pass, t-children, t-left, t-right, t-iter, t-call, iter-none, iter-tree}
+use Rattle.meaning.specs.Run.{Env, run-walk}
+use Rattle.meaning.specs.Figures.{Inside, in-node, in-other, Kept, k-none, k-tree, k-other, Gives, g-empty, g-join, g-tree, g-text, g-bool, g-variable, g-let, g-if-true, g-if-false, g-same, g-children, g-pick, g-for, each-none, each-tree, GivesAll, all-none, all-more, Takes, t-skip, t-then, t-if-true, t-if-false, t-insert, t-delete, t-rename, t-let, t-snapshot, t-test, t-pass, t-children, t-left, t-right, t-iter, t-call, iter-none, iter-tree}
 use Rattle.meaning.specs.Shape.{wordOk, wordsOk, queryUses, statementUses, forestUses, absent, is-label as label-ok, is-size, shapely}
 use Rattle.meaning.specs.Reply.{done, Loads, sound, run-settled}
 use Rattle.meaning.specs.Laws.Bools.{and-left, and-right}
@@ -189,24 +188,14 @@ module _ (byte : ℕ → ℕ) where
   writable-join nil g h k = k
   writable-join (cons t f) g h k = let r = writable-join f g (h .0 .1, h .1 .1) k in ((h .0 .0, r .0), (h .1 .0, r .1))
 
-  writable-kept : (l : ℕ) (f : Forest) → Writable f → Writable (kept l f)
-  unfolding kept
-  writable-kept l nil h = h
-  writable-kept l (cons (Tree.text w) f) h = writable-kept l f (h .0 .1, h .1 .1)
-  writable-kept l (cons (Tree.bool b) f) h = writable-kept l f (h .0 .1, h .1 .1)
-  writable-kept l (cons (Tree.node n k) f) h = go (eqb n l) (writable-kept l f (h .0 .1, h .1 .1))
-    where
-      go : (b : Bool) → Writable (kept l f) → Writable (cond b (cons (Tree.node n k) (kept l f)) (kept l f))
-      go true r = ((h .0 .0, r .0), (h .1 .0, r .1))
-      go false r = r
+  writable-kept : {l : ℕ} {f g : Forest} → Kept l f g → Writable f → Writable g
+  writable-kept k-none h = h
+  writable-kept (k-tree m k) h = let r = writable-kept k (h .0 .1, h .1 .1) in ((h .0 .0, r .0), (h .1 .0, r .1))
+  writable-kept (k-other d k) h = writable-kept k (h .0 .1, h .1 .1)
 
-  writable-inside : (f : Forest) → Writable f → Writable (inside (seen f))
-  unfolding inside seen
-  writable-inside nil h = h
-  writable-inside (cons (Tree.text w) nil) h = (tt, tt)
-  writable-inside (cons (Tree.bool b) nil) h = (tt, tt)
-  writable-inside (cons (Tree.node n f) nil) h = (h .0 .0, h .1 .0 .1)
-  writable-inside (cons t (cons u f)) h = (tt, tt)
+  writable-inside : {f g : Forest} → Inside f g → Writable f → Writable g
+  writable-inside in-node h = (h .0 .0, h .1 .0 .1)
+  writable-inside (in-other d) h = (tt, tt)
 
   writable-at : (γ : Env) (v : ℕ) → WritableAll γ → Writable (getD γ v nil)
   writable-at [] v h = (tt, tt)
@@ -229,9 +218,9 @@ module _ (byte : ℕ → ℕ) where
       | g-let {γ = γ} {x = x} e (_ → a) (_ → b) ↦ λ h. b (writable-also γ x h (a h))
       | g-if-true e _ (_ → b) ↦ b
       | g-if-false e _ (_ → b) ↦ b
-      | g-same e _ _ ↦ λ h. ((tt, tt), (tt, tt))
-      | g-children {γ = γ} {v = v} e d ↦ λ h. rw d at (writable-inside (getD γ v nil) (writable-at γ v h))
-      | g-pick {l = l} {x = x} e (_ → a) d ↦ λ h. rw d at (writable-kept l x (a h))
+      | g-same e _ _ _ ↦ λ h. ((tt, tt), (tt, tt))
+      | g-children {γ = γ} {v = v} e d ↦ λ h. writable-inside d (writable-at γ v h)
+      | g-pick e (_ → a) d ↦ λ h. writable-kept d (a h)
       | g-for e (_ → a) (_ → b) ↦ λ h. b h (a h)
       | each-none ↦ λ h k. k
       | each-tree {γ = γ} {t = t} {x = x} {y = y} (_ → a) (_ → b) ↦ λ h k. writable-join x y (a (writable-also γ (only t) h ((k .0 .0, tt), (k .1 .0, tt)))) (b h (k .0 .1, k .1 .1))
