@@ -48,9 +48,9 @@ module _ (S : Script) (byte : ℕ → ℕ) where
     -- row i, a query, gives v
     pub data Gives : Env → ℕ → Forest → Type 0 where
       g-empty : {γ : Env} {i : ℕ} → queryAt S i ≡ Query.empty → Gives γ i nil
-      g-join : {γ : Env} {i p q : ℕ} {x y : Forest} → queryAt S i ≡ Query.join p q → Gives γ p x → Gives γ q y → Gives γ i (x ⊕ y)
+      g-join : {γ : Env} {i p q : ℕ} {x y z : Forest} → queryAt S i ≡ Query.join p q → Gives γ p x → Gives γ q y → x ⊕ y ≡ z → Gives γ i z
       g-tree : {γ : Env} {i n q : ℕ} {x : Forest} → queryAt S i ≡ Query.tree n q → Gives γ q x → Gives γ i (only (Tree.node n x))
-      g-text : {γ : Env} {i p q : ℕ} → queryAt S i ≡ Query.text p q → Gives γ i (only (Tree.text (textAt byte p q)))
+      g-text : {γ : Env} {i p q : ℕ} {w : Text} → queryAt S i ≡ Query.text p q → textAt byte p q ≡ w → Gives γ i (only (Tree.text w))
       g-bool : {γ : Env} {i : ℕ} {b : Bool} → queryAt S i ≡ Query.bool b → Gives γ i (only (Tree.bool b))
       g-variable : {γ : Env} {i v : ℕ} {x : Forest} → queryAt S i ≡ Query.variable v → getD γ v nil ≡ x → Gives γ i x
       g-let : {γ : Env} {i p q : ℕ} {x y : Forest} → queryAt S i ≡ Query.letin p q → Gives γ p x → Gives (γ ++ x ∷ []) q y → Gives γ i y
@@ -65,7 +65,8 @@ module _ (S : Script) (byte : ℕ → ℕ) where
     -- row q, for each tree, one after the other
     pub data GivesEach : Env → ℕ → Forest → Forest → Type 0 where
       each-none : {γ : Env} {q : ℕ} → GivesEach γ q nil nil
-      each-tree : {γ : Env} {q : ℕ} {t : Tree} {f x y : Forest} → Gives (γ ++ only t ∷ []) q x → GivesEach γ q f y → GivesEach γ q (cons t f) (x ⊕ y)
+      each-tree : {γ : Env} {q : ℕ} {t : Tree} {f x y z : Forest} → Gives (γ ++ only t ∷ []) q x → GivesEach γ q f y → x ⊕ y ≡ z
+          → GivesEach γ q (cons t f) z
 
   -- a call's queries give the parameters' values
   pub data GivesAll (γ : Env) : List ℕ → List Forest → Type 0 where
@@ -88,15 +89,16 @@ module _ (S : Script) (byte : ℕ → ℕ) where
           → Matches t u → Takes γ r (only u) g → Takes γ i (only u) g
       t-pass : {γ : Env} {i r : ℕ} {t : Test} {u : Tree} → statementAt S i ≡ Statement.test t r → Differs t u → Takes γ i (only u) (only u)
       t-children : {γ : Env} {i p n : ℕ} {f g : Forest} → statementAt S i ≡ Statement.children p → Takes γ p f g → Takes γ i (only (Tree.node n f)) (only (Tree.node n g))
-      t-left : {γ : Env} {i p : ℕ} {f x : Forest} → statementAt S i ≡ Statement.left p → Takes γ p nil x → Takes γ i f (x ⊕ f)
-      t-right : {γ : Env} {i p : ℕ} {f x : Forest} → statementAt S i ≡ Statement.right p → Takes γ p nil x → Takes γ i f (f ⊕ x)
+      t-left : {γ : Env} {i p : ℕ} {f x g : Forest} → statementAt S i ≡ Statement.left p → Takes γ p nil x → x ⊕ f ≡ g → Takes γ i f g
+      t-right : {γ : Env} {i p : ℕ} {f x g : Forest} → statementAt S i ≡ Statement.right p → Takes γ p nil x → f ⊕ x ≡ g → Takes γ i f g
       t-iter : {γ : Env} {i p : ℕ} {f g : Forest} → statementAt S i ≡ Statement.iter p → TakesEach γ p f g → Takes γ i f g
       t-call : {γ : Env} {i c : ℕ} {l : List ℕ} {m : List Forest} {f g : Forest} → statementAt S i ≡ Statement.call c l → GivesAll γ l m → Takes m (S .procedureRow c .body) f g → Takes γ i f g
 
     -- iter: each tree of the focus as it was
     pub data TakesEach : Env → ℕ → Forest → Forest → Type 0 where
       iter-none : {γ : Env} {p : ℕ} → TakesEach γ p nil nil
-      iter-tree : {γ : Env} {p : ℕ} {t : Tree} {f x y : Forest} → Takes γ p (only t) x → TakesEach γ p f y → TakesEach γ p (cons t f) (x ⊕ y)
+      iter-tree : {γ : Env} {p : ℕ} {t : Tree} {f x y z : Forest} → Takes γ p (only t) x → TakesEach γ p f y → x ⊕ y ≡ z
+          → TakesEach γ p (cons t f) z
 
 -- ---- what the rules of typing look at: an atom as written
 

@@ -15,5 +15,6 @@ pub mod Bundle
 pub mod Reply
 pub mod Listing
 pub mod Figures
+pub mod Charges
 pub mod Laws
 pub mod Theorems

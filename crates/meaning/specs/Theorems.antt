@@ -1,4 +1,4 @@
--- The theorems: walks and figures, soundness, steadiness, one result, round trips, and the worked examples.
+-- The theorems: walks and figures, replies and figures, soundness, steadiness, one result, round trips, and the worked examples.
 pub mod Worked
 pub mod ExactCheck
 pub mod Single
@@ -9,3 +9,4 @@ pub mod Trip
 pub mod Places
 pub mod Sound
 pub mod Within
+pub mod Replies

@@ -77,3 +77,10 @@ settle (halt h) n = record { verdict = stops h; left = n }
 settle (tick w) zero = record { verdict = fuel; left = 0 }
 settle (tick w) (suc n) = settle w n
 settle (ask q w) n = absurd q
+
+-- the units that fall due in it before it ends, however it ends
+unfoldable pub due : {A : Type 0} → Quiet A → ℕ
+due (ret x) = 0
+due (halt h) = 0
+due (tick w) = suc (due w)
+due (ask q w) = absurd q

@@ -1,8 +1,10 @@
--- Walks that give one value for one number of units, wherever purse and levels suffice: what one walk costs (`Costs`), and families of walks by their levels of depth (`Sure`), with a law for each way that a walk is put together.
-use Prim.Native.Nat.{ℕ, zero, suc, _+_, _≤_, _<_}
-use mathlib.Core.Path.{_≡_, refl, sym, _∙_}
+-- Walks that give one value for one number of units, wherever purse and levels suffice: what one walk costs (`Costs`), and families of walks
+-- by their levels of depth (`Priced`, and `Sure` for some price), with a law for each way that a walk is put together.
+use Prim.Native.Nat.{ℕ, zero, suc, _+_, max, _≤_, _<_}
+use mathlib.Core.Path.{_≡_, refl, sym, _∙_, subst}
 use native.Mathlib.Omega.{arith}
-use Rattle.meaning.specs.Walk.{Stop, depth, wide, mismatch, outside, stuck, Walk, ret, halt, tick, ask, _>>=_, pay, Judgement, stop, Verdict, gives, fuel, stops, Settles, done, halted, short, paid, passed, refused, Quiet, Unasked}
+use Rattle.meaning.specs.Walk.{Stop, depth, wide, mismatch, outside, stuck, Walk, ret, halt, tick, ask, _>>=_, pay, Judgement, stop}
+use Rattle.meaning.specs.Walk.{Verdict, gives, fuel, stops, Settles, done, halted, short, paid, passed, refused, Quiet, Unasked}
 
 -- the stops that say nothing against a script: Depth where D allows it, Wide where W does
 abbrev pub Spent : Type 0 → Type 0 → Stop → Type 0
@@ -61,7 +63,8 @@ module _ {Q : Type 0} (Met : Q → Type 0) {A : Type 0} (F : Stop → Type 0) (x
   Costs u (ask q w) = Met q × Costs u w
 
   -- as a met question stops a walk only as F allows
-  pub costs-ended : (J : Q → Judgement → Type 0) → ((q : Q) (h : Stop) → Met q → J q (stop h) → F h) → {w : Walk Q A} {n m : ℕ} {v : Verdict A} → Settles J w n v m → (u : ℕ) → Costs u w → Ended F x u n v m
+  pub costs-ended : (J : Q → Judgement → Type 0) → ((q : Q) (h : Stop) → Met q → J q (stop h) → F h)
+      → {w : Walk Q A} {n m : ℕ} {v : Verdict A} → Settles J w n v m → (u : ℕ) → Costs u w → Ended F x u n v m
   unfolding Costs
   costs-ended J ok (done {n = n}) u c = (c .1, omega (arith, c .0))
   costs-ended J ok halted u c = c
@@ -116,61 +119,96 @@ costs-gives Met F none x u n (ask q w) c = absurd q
 -- ---- families of walks by their levels
 
 module _ {Q : Type 0} (Met : Q → Type 0) {A : Type 0} where
-  -- one price at every depth, and no halt but Depth, where the levels are fewer than `deep`
+  -- it gives x for these units at every depth, and there is no halt but Depth, where the levels are fewer than `deep`
+  pub record Priced (x : A) (deep units : ℕ) (w : ℕ → Walk Q A) : Type 0 where
+    pub costs : (d : ℕ) → Costs Met (Spent ⊥ (d < deep)) x units (w d)
+
+  -- for some price
   pub record Sure (x : A) (w : ℕ → Walk Q A) : Type 0 where
     pub deep : ℕ
     pub units : ℕ
-    pub costs : (d : ℕ) → Costs Met (Spent ⊥ (d < deep)) x units (w d)
+    pub priced : Priced x deep units w
 
 module _ {Q : Type 0} {Met : Q → Type 0} {A : Type 0} where
-  pub sure-ret : {x y : A} → y ≡ x → Sure Met x (λ d. ret y)
+  pub priced-ret : {x y : A} → y ≡ x → Priced Met x 0 0 (λ d. ret y)
   unfolding Costs
-  sure-ret e = record { deep = 0; units = 0; costs = λ d. (refl, e) }
+  priced-ret e = record { costs = λ d. (refl, e) }
 
-  pub sure-tick : {x : A} {w : ℕ → Walk Q A} → Sure Met x w → Sure Met x (λ d. tick (w d))
+  pub priced-tick : {x : A} {deep u : ℕ} {w : ℕ → Walk Q A} → Priced Met x deep u w → Priced Met x deep (suc u) (λ d. tick (w d))
   unfolding Costs
-  sure-tick s = record { deep = s .deep; units = suc (s .units); costs = λ d. s .costs d }
+  priced-tick p = record { costs = p .costs }
 
-  pub sure-pay : (k : ℕ) {x : A} {w : ℕ → Walk Q A} → Sure Met x w → Sure Met x (λ d. pay k (w d))
-  sure-pay k {x} {w} s = record { deep = s .deep; units = k + s .units; costs = λ d. costs-pay Met _ x k (s .units) (w d) (s .costs d) }
+  pub priced-pay : (k : ℕ) {x : A} {deep u : ℕ} {w : ℕ → Walk Q A} → Priced Met x deep u w → Priced Met x deep (k + u) (λ d. pay k (w d))
+  priced-pay k {x} {u = u} {w} p = record { costs = λ d. costs-pay Met _ x k u (w d) (p .costs d) }
 
-  pub sure-ask : (q : Q) → Met q → {x : A} {w : ℕ → Walk Q A} → Sure Met x w → Sure Met x (λ d. ask q (w d))
+  pub priced-ask : (q : Q) → Met q → {x : A} {deep u : ℕ} {w : ℕ → Walk Q A} → Priced Met x deep u w → Priced Met x deep u (λ d. ask q (w d))
   unfolding Costs
-  sure-ask q m s = record { deep = s .deep; units = s .units; costs = λ d. (m, s .costs d) }
+  priced-ask q m p = record { costs = λ d. (m, p .costs d) }
 
   -- a row: one level and one unit
-  pub sure-row : {x : A} {b : ℕ → Walk Q A} (r : ℕ → Walk Q A) → r 0 ≡ halt depth → ((d : ℕ) → r (suc d) ≡ tick (b d)) → Sure Met x b → Sure Met x r
+  pub priced-row : {x : A} {deep u : ℕ} {b : ℕ → Walk Q A} (r : ℕ → Walk Q A) → r 0 ≡ halt depth → ((d : ℕ) → r (suc d) ≡ tick (b d))
+      → Priced Met x deep u b → Priced Met x (suc deep) (suc u) r
   unfolding Costs
-  sure-row {x} {b} r z more s = record { deep = suc (s .deep); units = suc (s .units); costs = at }
+  priced-row {x} {deep} {u} {b} r z more p = record { costs = at }
     where
-      at : (d : ℕ) → Costs Met (Spent ⊥ (d < suc (s .deep))) x (suc (s .units)) (r d)
+      at : (d : ℕ) → Costs Met (Spent ⊥ (d < suc deep)) x (suc u) (r d)
       at zero = rw z (omega arith)
-      at (suc d) = rw (more d) (costs-map Met _ _ (spent-map (λ e. e) (λ l. omega arith)) x (s .units) (b d) (s .costs d))
+      at (suc d) = rw (more d) (costs-map Met _ _ (spent-map (λ e. e) (λ l. omega arith)) x u (b d) (p .costs d))
 
-pub sure-then : {Q : Type 0} {Met : Q → Type 0} {A B : Type 0} {x : A} {y : B} {w : ℕ → Walk Q A} (k : ℕ → A → Walk Q B) → Sure Met x w → Sure Met y (λ d. k d x) → Sure Met y (λ d. w d >>= k d)
-sure-then {Met = Met} {x = x} {y = y} {w = w} k s t = record {
-  deep = s .deep + t .deep;
-  units = s .units + t .units;
-  costs = λ d. costs-then Met _ x y (s .units) (t .units) (w d) (k d)
-      (costs-map Met _ _ (spent-map (λ e. e) (λ l. omega arith)) x (s .units) (w d) (s .costs d))
-      (costs-map Met _ _ (spent-map (λ e. e) (λ l. omega arith)) y (t .units) (k d x) (t .costs d));
+  -- the price by another name
+  pub priced-as : {x : A} {deep deep′ u v : ℕ} {w : ℕ → Walk Q A} → deep ≤ deep′ → u ≡ v → Priced Met x deep u w → Priced Met x deep′ v w
+  priced-as {x} {deep} {deep′} {u} {v} {w} l e p = record { costs = at }
+    where
+      at : (d : ℕ) → Costs Met (Spent ⊥ (d < deep′)) x v (w d)
+      at d = subst (λ (n : ℕ). Costs Met (Spent ⊥ (d < deep′)) x n (w d)) e (costs-map Met _ _ (spent-map (λ e. e) (λ k. omega arith)) x u (w d) (p .costs d))
+
+pub priced-then : {Q : Type 0} {Met : Q → Type 0} {A B : Type 0} {x : A} {y : B} {deep deep′ u v : ℕ} {w : ℕ → Walk Q A} (k : ℕ → A → Walk Q B)
+    → Priced Met x deep u w → Priced Met y deep′ v (λ d. k d x) → Priced Met y (max deep deep′) (u + v) (λ d. w d >>= k d)
+priced-then {Met = Met} {x = x} {y = y} {u = u} {v = v} {w = w} k p q = record {
+  costs = λ d. costs-then Met _ x y u v (w d) (k d)
+      (costs-map Met _ _ (spent-map (λ e. e) (λ l. omega arith)) x u (w d) (p .costs d))
+      (costs-map Met _ _ (spent-map (λ e. e) (λ l. omega arith)) y v (k d x) (q .costs d));
 }
+
+-- the same, where the price is not named
+module _ {Q : Type 0} {Met : Q → Type 0} {A : Type 0} where
+  abbrev pub sure-at : {x : A} {deep units : ℕ} {w : ℕ → Walk Q A} → Priced Met x deep units w → Sure Met x w
+  sure-at {deep = deep} {units = units} p = record { deep = deep; units = units; priced = p }
+
+  pub sure-ret : {x y : A} → y ≡ x → Sure Met x (λ d. ret y)
+  sure-ret e = sure-at (priced-ret e)
+
+  pub sure-tick : {x : A} {w : ℕ → Walk Q A} → Sure Met x w → Sure Met x (λ d. tick (w d))
+  sure-tick s = sure-at (priced-tick (s .priced))
+
+  pub sure-ask : (q : Q) → Met q → {x : A} {w : ℕ → Walk Q A} → Sure Met x w → Sure Met x (λ d. ask q (w d))
+  sure-ask q m s = sure-at (priced-ask q m (s .priced))
+
+  pub sure-row : {x : A} {b : ℕ → Walk Q A} (r : ℕ → Walk Q A) → r 0 ≡ halt depth → ((d : ℕ) → r (suc d) ≡ tick (b d)) → Sure Met x b → Sure Met x r
+  sure-row r z more s = sure-at (priced-row r z more (s .priced))
+
+pub sure-then : {Q : Type 0} {Met : Q → Type 0} {A B : Type 0} {x : A} {y : B} {w : ℕ → Walk Q A} (k : ℕ → A → Walk Q B)
+    → Sure Met x w → Sure Met y (λ d. k d x) → Sure Met y (λ d. w d >>= k d)
+sure-then k s t = sure-at (priced-then k (s .priced) (t .priced))
 
 -- ---- what a sure family comes to
 
 -- where a met question stops a walk only as W allows
-module _ {Q : Type 0} {Met : Q → Type 0} (W : Type 0) (J : Q → Judgement → Type 0) (ok : (q : Q) (h : Stop) → Met q → J q (stop h) → Spent W ⊥ h) {A : Type 0} {x : A} {w : ℕ → Walk Q A} (s : Sure Met x w) where
+module _ {Q : Type 0} {Met : Q → Type 0} (W : Type 0) (J : Q → Judgement → Type 0)
+    (ok : (q : Q) (h : Stop) → Met q → J q (stop h) → Spent W ⊥ h) {A : Type 0} {x : A} {w : ℕ → Walk Q A} (s : Sure Met x w) where
   pub sure-ended : (d n m : ℕ) (v : Verdict A) → Settles J (w d) n v m → Ended (Spent W (d < s .deep)) x (s .units) n v m
-  sure-ended d n m v t = costs-ended Met _ x J (λ q h a j. spent-map (λ e. e) (λ e. absurd e) h (ok q h a j)) t (s .units) (costs-map Met _ _ (spent-map (λ e. absurd e) (λ l. l)) x (s .units) (w d) (s .costs d))
+  sure-ended d n m v t = costs-ended Met _ x J (λ q h a j. spent-map (λ e. e) (λ e. absurd e) h (ok q h a j)) t (s .units)
+      (costs-map Met _ _ (spent-map (λ e. absurd e) (λ l. l)) x (s .units) (w d) (s .priced .costs d))
 
   pub sure-found : (d n m : ℕ) (v : Verdict A) → Settles J (w d) n v m → Found (Spent W (Unit {0})) x v
   sure-found d n m v t = ended-found W _ x (s .units) n v m (sure-ended d n m v t)
 
 pub sure-costs : (W : Type 0) {Q : Type 0} {Met : Q → Type 0} {A : Type 0} {w : ℕ → Walk Q A} {x : A} (s : Sure Met x w) (d : ℕ) → Costs Met (Spent W (Unit {0})) x (s .units) (w d)
-sure-costs W {Met = Met} {w = w} {x = x} s d = costs-map Met _ _ (spent-map (λ e. absurd e) (λ l. tt)) x (s .units) (w d) (s .costs d)
+sure-costs W {Met = Met} {w = w} {x = x} s d = costs-map Met _ _ (spent-map (λ e. absurd e) (λ l. tt)) x (s .units) (w d) (s .priced .costs d)
 
 pub sure-one : {Q : Type 0} {Met : Q → Type 0} {A : Type 0} {w : ℕ → Walk Q A} {x y : A} → Sure Met x w → Sure Met y w → x ≡ y
-sure-one {Met = Met} {w = w} {x = x} {y = y} s t = costs-one Met (Spent ⊥ (s .deep < s .deep)) (unspent (λ l. omega arith)) _ x y (s .units) (t .units) (w (s .deep)) (s .costs (s .deep)) (t .costs (s .deep))
+sure-one {Met = Met} {w = w} {x = x} {y = y} s t = costs-one Met (Spent ⊥ (s .deep < s .deep)) (unspent (λ l. omega arith)) _ x y (s .units) (t .units) (w (s .deep))
+    (s .priced .costs (s .deep)) (t .priced .costs (s .deep))
 
 pub sure-gives : {Met : ⊥ → Type 0} {A : Type 0} {w : ℕ → Quiet A} {x : A} (s : Sure Met x w) (d n : ℕ) → s .deep ≤ d → Settles Unasked (w d) (s .units + n) (gives x) n
-sure-gives {Met = Met} {w = w} {x = x} s d n l = costs-gives Met (Spent ⊥ (d < s .deep)) (unspent (λ k. omega arith)) x (s .units) n (w d) (s .costs d)
+sure-gives {Met = Met} {w = w} {x = x} s d n l = costs-gives Met (Spent ⊥ (d < s .deep)) (unspent (λ k. omega arith)) x (s .units) n (w d) (s .priced .costs d)

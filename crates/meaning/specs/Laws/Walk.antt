@@ -3,7 +3,7 @@ use Prim.Native.Nat.{ℕ, zero, suc, _+_, _≤_, _<_}
 use mathlib.Core.Path.{_≡_, refl, sym, _∙_, ap, subst}
 use native.Mathlib.Omega.{arith}
 use native.Mathlib.Numerals.{add-one}
-use Rattle.meaning.specs.Walk.{Stop, Walk, ret, halt, tick, ask, _>>=_, pay, Judgement, pass, stop, Verdict, gives, fuel, stops, Settles, done, halted, short, paid, passed, refused, Quiet, Unasked, Settled, settle}
+use Rattle.meaning.specs.Walk.{Stop, Walk, ret, halt, tick, ask, _>>=_, pay, Judgement, pass, stop, Verdict, gives, fuel, stops, Settles, done, halted, short, paid, passed, refused, Quiet, Unasked, Settled, settle, due}
 
 module _ {A : Type 0} where
   -- a verdict that is not Fuel
@@ -119,6 +119,22 @@ unasked-single q j k x y = absurd x
 
 pub settles-settle : {A : Type 0} (w : Quiet A) (n m : ℕ) (v : Verdict A) → Settles Unasked w n v m → (settle w n .verdict ≡ v) × (settle w n .left ≡ m)
 settles-settle w n m v s = one-verdict Unasked unasked-single (settle-settles w n) s
+
+-- Fuel, if and only if more falls due than the purse holds; else all of it is paid
+pub due-short : {A : Type 0} {w : Quiet A} {n m : ℕ} → Settles Unasked w n fuel m → n < due w
+unfolding due
+due-short short = omega arith
+due-short (paid s) = omega (arith, due-short s)
+due-short (passed {q = q} j s) = absurd q
+
+pub due-paid : {A : Type 0} {w : Quiet A} {n m : ℕ} {v : Verdict A} → Settles Unasked w n v m → Other v → due w + m ≡ n
+unfolding due
+due-paid done o = omega arith
+due-paid halted o = omega arith
+due-paid short o = absurd o
+due-paid (paid s) o = omega (arith, due-paid s o)
+due-paid (passed {q = q} j s) o = absurd q
+due-paid (refused {q = q} j) o = absurd q
 
 -- ---- closure: if the questions pass, what is given has P
 

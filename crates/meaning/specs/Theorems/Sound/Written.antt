@@ -210,9 +210,9 @@ module _ (byte : ℕ → ℕ) where
     gives-writable : {γ : Env} {i : ℕ} {x : Forest} → Gives S byte γ i x → WritableAll γ → Writable x
     gives-writable g = elim g as (λ γ i x _. WritableAll γ → Writable x) (λ γ q f x _. WritableAll γ → Writable f → Writable x) [
       | g-empty e ↦ λ h. (tt, tt)
-      | g-join {x = x} {y = y} e (_ → a) (_ → b) ↦ λ h. writable-join x y (a h) (b h)
+      | g-join {x = x} {y = y} e (_ → a) (_ → b) d ↦ λ h. rw d at (writable-join x y (a h) (b h))
       | g-tree {i = i} e (_ → a) ↦ λ h. let n = rw e at (queries i) in let r = a h in ((r .0, tt), ((n, r .1), tt))
-      | g-text {i = i} e ↦ λ h. let n = rw e at (queries i) in ((refl, tt), (n, tt))
+      | g-text {i = i} e d ↦ λ h. let n = rw e at (queries i) in rw (← d) ((refl, tt), (n, tt))
       | g-bool e ↦ λ h. ((tt, tt), (tt, tt))
       | g-variable {γ = γ} {v = v} e d ↦ λ h. rw d at (writable-at γ v h)
       | g-let {γ = γ} {x = x} e (_ → a) (_ → b) ↦ λ h. b (writable-also γ x h (a h))
@@ -223,7 +223,7 @@ module _ (byte : ℕ → ℕ) where
       | g-pick e (_ → a) d ↦ λ h. writable-kept d (a h)
       | g-for e (_ → a) (_ → b) ↦ λ h. b h (a h)
       | each-none ↦ λ h k. k
-      | each-tree {γ = γ} {t = t} {x = x} {y = y} (_ → a) (_ → b) ↦ λ h k. writable-join x y (a (writable-also γ (only t) h ((k .0 .0, tt), (k .1 .0, tt)))) (b h (k .0 .1, k .1 .1))
+      | each-tree {γ = γ} {t = t} {x = x} {y = y} (_ → a) (_ → b) d ↦ λ h k. rw d at (writable-join x y (a (writable-also γ (only t) h ((k .0 .0, tt), (k .1 .0, tt)))) (b h (k .0 .1, k .1 .1)))
     ]
 
     all-writable : {γ : Env} {l : List ℕ} {m : List Forest} → GivesAll S byte γ l m → WritableAll γ → WritableAll m
@@ -244,12 +244,12 @@ module _ (byte : ℕ → ℕ) where
       | t-test e m (_ → a) ↦ a
       | t-pass e m ↦ λ h k. k
       | t-children e (_ → a) ↦ λ h k. let r = a h (k .0 .0, k .1 .0 .1) in ((r .0, tt), ((k .1 .0 .0, r .1), tt))
-      | t-left {f = f} {x = x} e (_ → a) ↦ λ h k. writable-join x f (a h (tt, tt)) k
-      | t-right {f = f} {x = x} e (_ → a) ↦ λ h k. writable-join f x k (a h (tt, tt))
+      | t-left {f = f} {x = x} e (_ → a) d ↦ λ h k. rw d at (writable-join x f (a h (tt, tt)) k)
+      | t-right {f = f} {x = x} e (_ → a) d ↦ λ h k. rw d at (writable-join f x k (a h (tt, tt)))
       | t-iter e (_ → a) ↦ a
       | t-call e a (_ → b) ↦ λ h k. b (all-writable a h) k
       | iter-none ↦ λ h k. k
-      | iter-tree {x = x} {y = y} (_ → a) (_ → b) ↦ λ h k. writable-join x y (a h ((k .0 .0, tt), (k .1 .0, tt))) (b h (k .0 .1, k .1 .1))
+      | iter-tree {x = x} {y = y} (_ → a) (_ → b) d ↦ λ h k. rw d at (writable-join x y (a h ((k .0 .0, tt), (k .1 .0, tt))) (b h (k .0 .1, k .1 .1)))
     ]
 
 pub loads-shapely : {s : List ℕ} → Loads s done → shapely s ≡ true
