@@ -13,8 +13,10 @@ use Rattle.meaning.specs.Forest.{Tree, Forest, nil, cons, only, _⊕_, c
 use Rattle.meaning.specs.Walk.{Place, of-query, of-statement, ret, pay, _>>=_, Verdict, gives, Quiet, Unasked, Settles}
 use Rattle.meaning.specs.Run.{Env, Seen, seen, Fate, misfit, matched, passed, tested, kept, each, branch, same-texts, query-of}
 use Rattle.meaning.specs.Run.{insert-of, rename-of, test-of, children-of, arguments, statement-of, query, statement, run-walk}
-use Rattle.meaning.specs.Figures.{Gives, g-empty, g-join, g-tree, g-text, g-bool, g-variable, g-let, g-if-true, g-if-false, g-same, g-children, g-pick, g-for, GivesEach, each-none, each-tree, GivesAll, all-none, all-more}
-use Rattle.meaning.specs.Figures.{Takes, t-skip, t-then, t-if-true, t-if-false, t-insert, t-delete, t-rename, t-let, t-snapshot, t-test, t-pass, t-children, t-left, t-right, t-iter, t-call, TakesEach, iter-none, iter-tree}
+use Rattle.meaning.specs.Figures.{Gives, g-empty, g-join, g-tree, g-text, g-bool, g-variable, g-let, g-if-true, g-if-false}
+use Rattle.meaning.specs.Figures.{g-same, g-children, g-pick, g-for, GivesEach, each-none, each-tree, GivesAll, all-none, all-more}
+use Rattle.meaning.specs.Figures.{Takes, t-skip, t-then, t-if-true, t-if-false, t-insert, t-delete, t-rename, t-let, t-snapshot}
+use Rattle.meaning.specs.Figures.{t-test, t-pass, t-children, t-left, t-right, t-iter, t-call, TakesEach, iter-none, iter-tree}
 use Rattle.meaning.specs.Charges.{gives-charge, each-charge, all-charge, takes-charge, iter-charge, gives-levels, each-levels, all-levels, takes-levels, iter-levels}
 use Rattle.meaning.specs.Laws.Figures.{matches-tested, tested-matches, differs-tested, tested-differs, inside-is, inside-one, kept-is, kept-one, same-is, same-one}
 use Rattle.meaning.specs.Laws.Walk.{All, all-given, all-then, all-map, all-pay}

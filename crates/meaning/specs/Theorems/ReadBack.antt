@@ -83,6 +83,12 @@ mutual
 pub result-length : (f : Forest) → length (resultRows f) ≡ forestSize f
 result-length f = forest-length 0 f
 
+-- a row is eight bytes
+pub row-bytes-length : (l : List Cells) → length (rowBytes l) ≡ 2 * row-words * length l
+unfolding rowBytes bytesOf
+row-bytes-length [] = refl
+row-bytes-length (c ∷ l) = omega (arith, row-bytes-length l)
+
 row-append : (rows more : List Cells) (r : ℕ) → 1 ≤ r → r ≤ length rows → listRow (rows ++ more) r ≡ listRow rows r
 unfolding listRow
 row-append rows more zero p q = absurd (omega arith)

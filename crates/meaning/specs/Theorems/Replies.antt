@@ -1,26 +1,35 @@
 -- Demand 2 where a caller sees it, on replies: what done and each refusal of check and run say of the figures, that a verdict stays under more fuel, and that apply's order is one.
-use Prim.Native.Nat.{ℕ, _+_, _-_, _≤_, _<_}
-use mathlib.Core.Path.{_≡_, refl, _∙_}
-use mathlib.Core.List.{List, []}
+use Prim.Native.Nat.{ℕ, _+_, _*_, _-_, _≤_, _<_}
+use mathlib.Core.Path.{_≡_, refl, sym, _∙_, ap, ap₂, subst}
+use mathlib.Core.Bool.{true}
+use mathlib.Core.List.{List, [], _++_}
 use mathlib.Core.Logic.{_↔_}
 use native.Mathlib.Omega.{arith}
-use Rattle.meaning.specs.Limits.{most-depth}
-use Rattle.meaning.specs.Words.{rowsLent}
+use lib.ListN.{length, take, drop}
+use lib.Seq.{take-append-seam}
+use Rattle.meaning.specs.Limits.{most-depth, most-fuel, row-words}
+use Rattle.meaning.specs.Words.{rowsLent, zeroed}
 use Rattle.meaning.specs.Sheet.{scriptOf, groveOf, sheetOf}
-use Rattle.meaning.specs.Forest.{Forest, forestOf, forestSize}
+use Rattle.meaning.specs.Forest.{Forest, forestOf, forestSize, resultRows, rowBytes}
 use Rattle.meaning.specs.Types.{Ty}
 use Rattle.meaning.specs.Walk.{Verdict, gives, stops, Settles, Unasked, due}
 use Rattle.meaning.specs.Walk as walk
 use Rattle.meaning.specs.Run.{run-walk}
 use Rattle.meaning.specs.Figures.{Takes, Accepts}
 use Rattle.meaning.specs.Charges.{takes-charge, takes-levels}
-use Rattle.meaning.specs.Reply.{block, shape, barren, tie, fuel, depth, wide, mismatch, outside, unfit, stuck, scratch, room, Answer, done, refused, verdict-answer}
-use Rattle.meaning.specs.Reply.{Loads, misshapen, is-barren, is-tied, sound, Checked, walked, Ran, ended, no-room, gave, given, run-settled}
+use Rattle.meaning.specs.Reply.{Refusal, block, shape, barren, tie, fuel, depth, wide, mismatch, outside, unfit, stuck, scratch, room, Answer, done, refused, verdict-answer}
+use Rattle.meaning.specs.Reply.{Loads, misshapen, is-barren, is-tied, sound, Checked, walked, Fitted, Ran, ended, no-room, gave, given, run-settled}
+use Rattle.meaning.specs.Reply.{Applied, unchecked, unfitted, applied, Reply, ApplyReply, OfBundle, unframed, opened}
+use Rattle.meaning.specs.Bundle.{framed, sheetIn}
+use Rattle.meaning.specs.Listing.{Told, loaded, check-ended, fit-ended, run-ended, all-done, Tells, not-framed, not-loaded, not-checked, not-fit, not-run, told, lent-work, lent-result}
 use Rattle.meaning.specs.Laws.Bools.{never}
-use Rattle.meaning.specs.Laws.Walk.{fuel-all, settle-settles, settles-settle, due-short, due-paid}
+use Rattle.meaning.specs.Laws.Walk.{Other, fuel-all, settle-settles, settles-settle, due-short, due-paid}
 use Rattle.meaning.specs.Laws.Sure.{Spent, Found}
 use Rattle.meaning.specs.Theorems.ExactRun.{run-exactly}
 use Rattle.meaning.specs.Theorems.ExactCheck.{accepts-found-or-spent}
+use Rattle.meaning.specs.Theorems.ReadBack.{result-length, row-bytes-length}
+use Rattle.meaning.specs.Theorems.Steady.{verdict-more, same-walk, walked-more, alike-script, alike-grove, withCheckFuel, withRunFuel, check-load-stays, run-load-stays}
+use Rattle.meaning.specs.Theorems.Steady.{run-alike, check-alike, run-fuel-is, check-fuel-is}
 use Rattle.meaning.specs.Theorems.Single.{one-load, one-run}
 use Rattle.meaning.specs.Theorems.Sound.{checked-accepts}
 
@@ -170,3 +179,131 @@ check-exactly {s} {work} {units = units} c = ((λ e. checked-accepts (rw e at c)
     spares (Checked.unsound k) l a = never (cc (one-load s k l))
     spares (Checked.no-scratch k n) l a = tt
     spares (walked {v = v} k n t e d) l a = rw (← e) (found-spares (a .main .output) v (accepts-found-or-spent (scriptOf s) a _ _ v t))
+
+-- ---- more fuel, same answer
+
+-- every answer but 5, 12 and 13: what hangs neither on the fuel nor on the rows lent
+abbrev pub Firm : Answer → Type 0
+Firm done = Unit {0}
+Firm (refused block) = Unit {0}
+Firm (refused shape) = Unit {0}
+Firm (refused (barren x)) = Unit {0}
+Firm (refused (tie a b)) = Unit {0}
+Firm (refused fuel) = ⊥
+Firm (refused depth) = Unit {0}
+Firm (refused (wide at)) = Unit {0}
+Firm (refused (mismatch at)) = Unit {0}
+Firm (refused (outside at)) = Unit {0}
+Firm (refused unfit) = Unit {0}
+Firm (refused (stuck at)) = Unit {0}
+Firm (refused scratch) = ⊥
+Firm (refused room) = ⊥
+
+firm-other : {A : Type 0} (v : Verdict A) → Firm (verdict-answer v) → Other v
+firm-other (gives x) o = tt
+firm-other walk.Verdict.fuel o = o
+firm-other (stops h) o = tt
+
+-- a check's verdict other than Fuel, 2, 3 and 4 too, stays with its values and units under every greater check fuel up to the limit, if the working rows suffice
+pub check-stays : {s work : List ℕ} {a : Answer} {units : ℕ} (work′ : List ℕ) (w : ℕ) → Checked s work a units → Firm a → sheetOf s .checkFuel ≤ w → w ≤ most-fuel → w ≤ rowsLent work′
+    → Checked (withCheckFuel s w) work′ a units
+check-stays {s} work′ w (Checked.unsound l) o more limit lent = Checked.unsound (check-load-stays s w limit l more)
+check-stays {s} work′ w (Checked.no-scratch l n) o more limit lent = absurd o
+check-stays {s} {units = u} work′ w (walked {v = v} l n t e d) o more limit lent =
+    let k = check-fuel-is s l w limit in
+    walked-more s (withCheckFuel s w) (alike-script s (withCheckFuel s w) (check-alike s l w limit)) {units = u} t e d
+        (firm-other v (subst Firm (sym e) o)) (rw k more) (check-load-stays s w limit l more) (rw k lent)
+
+-- the first rows of a result, over another lent slice
+abbrev pub handed : ℕ → List ℕ → List ℕ → List ℕ
+handed root after result = take (2 * row-words * root) after ++ drop (2 * row-words * root) result
+
+given-handed : (f : Forest) (result result′ : List ℕ) → handed (forestSize f) (given f result) result′ ≡ given f result′
+given-handed f result result′ =
+    let n : length (rowBytes (resultRows f)) ≡ 2 * row-words * forestSize f = row-bytes-length (resultRows f) ∙ ap (λ k. 2 * row-words * k) (result-length f) in
+    let h : take (2 * row-words * forestSize f) (given f result) ≡ rowBytes (resultRows f) = rw (← n) (take-append-seam (rowBytes (resultRows f)) _) in
+    rw h refl
+
+-- a run's verdict other than Fuel stays with its units, root and rows under every greater run fuel up to the limit, whatever rows are lent for the result, if they and the working rows suffice
+pub run-stays : {s work result after : List ℕ} {a : Answer} {units root : ℕ} (work′ result′ : List ℕ) (w : ℕ) → Ran s work result a units root after → Firm a
+    → sheetOf s .runFuel ≤ w → w ≤ most-fuel → groveOf s .rows + w ≤ rowsLent work′ → root ≤ rowsLent result′ → Ran (withRunFuel s w) work′ result′ a units root (handed root after result′)
+run-stays {s} work′ result′ w (Ran.unsound l) o more limit lent fits = Ran.unsound (run-load-stays s w limit l more)
+run-stays {s} work′ result′ w (Ran.no-scratch l n) o more limit lent fits = absurd o
+run-stays {s} {units = u} work′ result′ w (ended l n e d) o more limit lent fits =
+    let g = alike-grove s (withRunFuel s w) (run-alike s l w limit) in let i = run-fuel-is s l w limit in
+    let k = verdict-more (run-walk (sheetOf s)) (run-walk (sheetOf (withRunFuel s w))) (sheetOf s .runFuel) (sheetOf (withRunFuel s w) .runFuel) (run-settled s .verdict)
+        (same-walk s (withRunFuel s w) (alike-script s (withRunFuel s w) (run-alike s l w limit)) g) (rw i more) refl (firm-other (run-settled s .verdict) (subst Firm (sym e) o)) in
+    ended {units = u} (run-load-stays s w limit l more) (rw (g, i) lent) (ap verdict-answer (k .0) ∙ e) (omega (arith, k .1))
+run-stays {s} work′ result′ w (no-room l n g d x) o more limit lent fits = absurd o
+run-stays {s} {result = result} {units = u} {root = root} work′ result′ w (gave {f = f} l n h d x y z) o more limit lent fits =
+    let g = alike-grove s (withRunFuel s w) (run-alike s l w limit) in let i = run-fuel-is s l w limit in
+    let k = verdict-more (run-walk (sheetOf s)) (run-walk (sheetOf (withRunFuel s w))) (sheetOf s .runFuel) (sheetOf (withRunFuel s w) .runFuel) (gives f)
+        (same-walk s (withRunFuel s w) (alike-script s (withRunFuel s w) (run-alike s l w limit)) g) (rw i more) h tt in
+    gave {units = u} (run-load-stays s w limit l more) (rw (g, i) lent) (k .0) (omega (arith, k .1)) (omega arith) y (ap₂ (λ n o. handed n o result′) y z ∙ given-handed f result result′)
+
+-- ---- apply's order
+
+-- apply's reply, as what is told has it
+abbrev pub reply-of : Told → Reply
+reply-of (loaded r) = record { answer = refused r; checkUnits = 0; runUnits = 0; root = 0; result = lent-result; work = zeroed lent-work }
+reply-of (check-ended r u) = record { answer = refused r; checkUnits = u; runUnits = 0; root = 0; result = lent-result; work = zeroed lent-work }
+reply-of (fit-ended u r) = record { answer = refused r; checkUnits = u; runUnits = 0; root = 0; result = lent-result; work = zeroed lent-work }
+reply-of (run-ended u r v) = record { answer = refused r; checkUnits = u; runUnits = v; root = 0; result = lent-result; work = zeroed lent-work }
+reply-of (all-done u v root after) = record { answer = done; checkUnits = u; runUnits = v; root = root; result = after; work = zeroed lent-work }
+
+-- a run that is refused hands out nothing
+refused-run : {s work result after : List ℕ} {a : Answer} {r : Refusal} {units root : ℕ} → Ran s work result a units root after → a ≡ refused r → Ran s work result a units 0 result
+refused-run (Ran.unsound l) e = Ran.unsound l
+refused-run (Ran.no-scratch l n) e = Ran.no-scratch l n
+refused-run (ended l n h d) e = ended l n h d
+refused-run (no-room l n g d x) e = no-room l n g d x
+refused-run (gave l n g d x y z) e = never (cc)
+
+module _ (b : List ℕ) where
+  abbrev Applies : Reply → Type 0
+  Applies = OfBundle b lent-work lent-result (λ s. ApplyReply s lent-work lent-result)
+
+  told-applies : {t : Told} → Tells b t → Applies (reply-of t)
+  told-applies (not-framed e) = unframed e
+  told-applies (not-loaded e l) = opened e (record { said = unchecked (Checked.unsound l); clear = refl })
+  told-applies (not-checked e l c) = opened e (record { said = unchecked c; clear = refl })
+  told-applies (not-fit e c f) = opened e (record { said = unfitted c f; clear = refl })
+  told-applies (not-run e c f n) = opened e (record { said = applied c f (refused-run n refl); clear = refl })
+  told-applies (told e c f n) = opened e (record { said = applied c f n; clear = refl })
+
+  abbrev whole-reply : Answer → ℕ → ℕ → ℕ → List ℕ → List ℕ → Reply
+  whole-reply a u v root after work = record { answer = a; checkUnits = u; runUnits = v; root = root; result = after; work = work }
+
+  abbrev Telling : Reply → Type 0
+  Telling R = (t : Told) × Tells b t × (reply-of t ≡ R)
+
+  check-told : framed b ≡ true → {a : Answer} {r : Refusal} {u : ℕ} → Checked (sheetIn b) lent-work a u → a ≡ refused r → Telling (whole-reply a u 0 0 lent-result (zeroed lent-work))
+  check-told e (Checked.unsound {r = r} l) h = (loaded r, not-loaded e l, refl)
+  check-told e (Checked.no-scratch l n) h = (check-ended scratch 0, not-checked e l (Checked.no-scratch l n), refl)
+  check-told e {a} {r} {u} (walked l n t d q) h =
+      let c : Checked (sheetIn b) lent-work a u = walked {units = u} l n t d q in
+      (check-ended r u, not-checked e l (subst (λ a. Checked (sheetIn b) lent-work a u) h c), ap (λ a. whole-reply a u 0 0 lent-result (zeroed lent-work)) (sym h))
+
+  run-told : framed b ≡ true → {a : Answer} {u v root : ℕ} {after : List ℕ} → Checked (sheetIn b) lent-work done u → Fitted (sheetIn b) (scriptOf (sheetIn b) .a) done
+      → Ran (sheetIn b) lent-work lent-result a v root after → Telling (whole-reply a u v root after (zeroed lent-work))
+  run-told e {u = u} c f (Ran.unsound {r = r} l) = (run-ended u r 0, not-run e c f (Ran.unsound l), refl)
+  run-told e {u = u} c f (Ran.no-scratch l n) = (run-ended u scratch 0, not-run e c f (Ran.no-scratch l n), refl)
+  run-told e {u = u} {v = v} c f (ended {r = r} l n h d) = (run-ended u r v, not-run e c f (ended {units = v} l n h d), refl)
+  run-told e {u = u} {v = v} c f (no-room l n g d x) = (run-ended u room v, not-run e c f (no-room {units = v} l n g d x), refl)
+  run-told e {u = u} {v = v} {root = root} {after = after} c f (gave l n g d x y z) = (all-done u v root after, told e c f (gave {units = v} l n g d x y z), refl)
+
+  apply-telling : framed b ≡ true → {a : Answer} {u v root : ℕ} {after : List ℕ} → Applied (sheetIn b) lent-work lent-result a u v root after
+      → Telling (whole-reply a u v root after (zeroed lent-work))
+  apply-telling e (unchecked c) = check-told e c refl
+  apply-telling e (unfitted {r = r} {u = u} c f) = (fit-ended u r, not-fit e c f, refl)
+  apply-telling e (applied c f n) = run-told e c f n
+
+  -- what the program tells is apply's reply to the bundle, on the rows that it lends: `Tells` and `Applied` give one order
+  pub tells-applied : {R : Reply} → OfBundle b lent-work lent-result (λ s. ApplyReply s lent-work lent-result) R ↔ ((t : Told) × Tells b t × (reply-of t ≡ R))
+  tells-applied {R} = (to, λ k. subst Applies (k .2) (told-applies (k .1)))
+    where
+      to : {R : Reply} → Applies R → Telling R
+      to (unframed e) = (loaded block, not-framed e, refl)
+      to (opened {R = R} e k) =
+          let t = apply-telling e (k .said) in
+          (t .0, t .1, t .2 ∙ ap (λ w. whole-reply (R .answer) (R .checkUnits) (R .runUnits) (R .root) (R .result) w) (sym (k .clear)))

@@ -1,6 +1,6 @@
 -- More fuel, same answer: what a run gives and what a check says stays, with its units, under every greater fuel up to the limit. By `steady` of walks, and because the tables are the same.
 use Prim.Native.Nat.{ℕ, _+_, _*_, _-_, _/_, _%_, _≤_, _<_}
-use mathlib.Core.Path.{_≡_, refl, _∙_, ap, ap₂}
+use mathlib.Core.Path.{_≡_, refl, sym, _∙_, ap, ap₂}
 use mathlib.Core.Bool.{Bool, true, false, _&&_, false≢true}
 use mathlib.Core.List.{List}
 use native.Mathlib.Omega.{arith}
@@ -17,22 +17,24 @@ use Rattle.meaning.specs.Walk.{Verdict, gives, stops, Settles, Quiet, Un
 use Rattle.meaning.specs.Walk as walk
 use Rattle.meaning.specs.Run.{run-walk}
 use Rattle.meaning.specs.Check.{Judged, check-walk}
-use Rattle.meaning.specs.Shape.{Use, wordOk, types-ok, queries-ok, statements-ok, rows-ok, names-ok, procedures-ok, roots-ok, limits-ok, type-users, query-users, statement-users, row-users, users-ok, scope-ok, shaped, whole}
+use Rattle.meaning.specs.Shape.{Use, wordOk, types-ok, queries-ok, statements-ok, rows-ok, names-ok, procedures-ok, roots-ok, limits-ok}
+use Rattle.meaning.specs.Shape.{type-users, query-users, statement-users, row-users, users-ok, scope-ok, shaped, whole, shapely}
 use Rattle.meaning.specs.Reply.{Refusal, block, shape, barren, tie, fuel, depth, wide, mismatch, outside, unfit, stuck, scratch, room, Answer, done, refused, verdict-answer, Loads, misshapen, is-barren, is-tied, sound, Checked, walked, Ran, gave, Reply, RunReply, CheckReply}
-use Rattle.meaning.specs.Laws.Bools.{and-left, and-right, and-both}
+use Rattle.meaning.specs.Laws.Bools.{and-left, and-right, and-both, not-both}
 use Rattle.meaning.specs.Laws.Shaped.{few, limits-pass, long as shaped-long}
 use Rattle.meaning.specs.Laws.Agree.{SameTables, same-script, pool-here, need-same, same-rows}
 use Rattle.meaning.specs.Laws.Walk.{Other, steady, within-purse, settle-settles, settles-settle}
 use Rattle.meaning.specs.Theorems.Single.{one-check, one-run}
 
--- ---- a run that gave a forest
+-- ---- a run's verdict
 
--- more units in the purse: the same forest, and as many more left
-gives-more : (w w′ : Quiet Forest) (n m : ℕ) (f : Forest) → w′ ≡ w → n ≤ m → settle w n .verdict ≡ gives f → (settle w′ m .verdict ≡ gives f) × (settle w′ m .left + n ≡ settle w n .left + m)
-gives-more w w′ n m f same more e =
-    let t : Settles Unasked w n (gives f) (settle w n .left) = rw e at (settle-settles w n) in
+-- more units in the purse: the same verdict, if it is not Fuel, and as many more left
+pub verdict-more : (w w′ : Quiet Forest) (n m : ℕ) (v : Verdict Forest) → w′ ≡ w → n ≤ m → settle w n .verdict ≡ v → Other v
+    → (settle w′ m .verdict ≡ v) × (settle w′ m .left + n ≡ settle w n .left + m)
+verdict-more w w′ n m v same more e o =
+    let t : Settles Unasked w n v (settle w n .left) = rw e at (settle-settles w n) in
     let k : n + (m - n) ≡ m = omega arith in
-    let r = settles-settle w (n + (m - n)) _ _ (steady Unasked (m - n) t tt) in
+    let r = settles-settle w (n + (m - n)) _ _ (steady Unasked (m - n) t o) in
     rw (same, ← k) (r .0, omega (arith, r .1))
 
 -- what a check's walk may say, but for Fuel: 0, 6, 7, 8 and 9
@@ -62,17 +64,12 @@ says-other (gives τ) o = tt
 says-other walk.Verdict.fuel o = o
 says-other (stops h) o = tt
 
-says-loads : {s work : List ℕ} {a : Answer} {u : ℕ} → Checked s work a u → Says a → Loads s done
-says-loads (Checked.unsound l) o = absurd (no-load l o)
-says-loads (Checked.no-scratch l n) o = absurd o
-says-loads (walked l n t e d) o = l
-
 ran-loads : {s work result after : List ℕ} {u root : ℕ} → Ran s work result done u root after → Loads s done
 ran-loads (gave l n g d x y z) = l
 
 module _ (s s′ : List ℕ) (script : scriptOf s′ ≡ scriptOf s) where
   module _ (grove : groveOf s′ ≡ groveOf s) where
-    same-walk : run-walk (sheetOf s′) ≡ run-walk (sheetOf s)
+    pub same-walk : run-walk (sheetOf s′) ≡ run-walk (sheetOf s)
     unfolding run-walk sheetOf
     same-walk = rw (script, grove)
 
@@ -80,7 +77,7 @@ module _ (s s′ : List ℕ) (script : scriptOf s′ ≡ scriptOf s) where
     pub steady-run : {work work′ result after : List ℕ} {u root : ℕ} → Ran s work result done u root after → sheetOf s .runFuel ≤ sheetOf s′ .runFuel → Loads s′ done → groveOf s′ .rows + sheetOf s′ .runFuel ≤ rowsLent work′
         → Ran s′ work′ result done u root after
     steady-run (gave {f = f} {units = u} l n g d x y z) more loads lent =
-        let k = gives-more (run-walk (sheetOf s)) (run-walk (sheetOf s′)) (sheetOf s .runFuel) (sheetOf s′ .runFuel) f same-walk more g in
+        let k = verdict-more (run-walk (sheetOf s)) (run-walk (sheetOf s′)) (sheetOf s .runFuel) (sheetOf s′ .runFuel) (gives f) same-walk more g tt in
         gave {units = u} loads lent (k .0) (omega (arith, k .1)) x y z
 
     -- and every reply is that one
@@ -96,13 +93,18 @@ module _ (s s′ : List ℕ) (script : scriptOf s′ ≡ scriptOf s) where
       let r = steady (Judged (namesIn (scriptOf s))) (m - n) t o in
       rw script (rw k at r)
 
+  -- the walk's verdict, with its units
+  pub walked-more : {work′ : List ℕ} {a : Answer} {units left : ℕ} {v : Verdict Ty} → Settles (Judged (namesIn (scriptOf s))) (check-walk (scriptOf s)) (sheetOf s .checkFuel) v left
+      → verdict-answer v ≡ a → units + left ≡ sheetOf s .checkFuel → Other v
+      → sheetOf s .checkFuel ≤ sheetOf s′ .checkFuel → Loads s′ done → sheetOf s′ .checkFuel ≤ rowsLent work′ → Checked s′ work′ a units
+  walked-more {units = u} t e d o more loads lent = walked {units = u} loads lent (settles-more t o more) e (omega (arith, within-purse (Judged (namesIn (scriptOf s))) t))
+
   -- M-17: with its values and units, on the same terms
   pub steady-check : {work work′ : List ℕ} {a : Answer} {u : ℕ} → Checked s work a u → Says a → sheetOf s .checkFuel ≤ sheetOf s′ .checkFuel → Loads s′ done → sheetOf s′ .checkFuel ≤ rowsLent work′
       → Checked s′ work′ a u
   steady-check (Checked.unsound l) o more loads lent = absurd (no-load l o)
   steady-check (Checked.no-scratch l n) o more loads lent = absurd o
-  steady-check (walked {units = u} {v = v} l n t e d) o more loads lent =
-      walked {units = u} loads lent (settles-more t (says-other v (rw (← e) at o)) more) e (omega (arith, within-purse (Judged (namesIn (scriptOf s))) t))
+  steady-check (walked {units = u} {v = v} l n t e d) o more loads lent = walked-more {units = u} t e d (says-other v (rw (← e) at o)) more loads lent
 
   pub steady-check-replies : {work work′ : List ℕ} {R R′ : Reply} → CheckReply s work R → Says (R .answer) → sheetOf s .checkFuel ≤ sheetOf s′ .checkFuel → Loads s′ done → sheetOf s′ .checkFuel ≤ rowsLent work′
       → CheckReply s′ work′ R′ → (R′ .answer ≡ R .answer) × (R′ .checkUnits ≡ R .checkUnits)
@@ -164,6 +166,10 @@ module _ (S : Script) (G : Grove) (c r c′ r′ : ℕ) where
 
 -- ---- sheets that differ in their fuels only: words 11 and 12
 
+-- both fuels are within the limit
+abbrev Fuels : List ℕ → Type 0
+Fuels s = (wordAt s 11 ≤ most-fuel) × (wordAt s 12 ≤ most-fuel)
+
 pub record Alike (s s′ : List ℕ) : Type 0 where
   pub long : length s′ ≡ length s
   pub low : (i : ℕ) → i < 22 → getD s′ i 0 ≡ getD s i 0
@@ -192,13 +198,31 @@ module _ (s s′ : List ℕ) (alike : Alike s s′) where
     root = low 10 (omega arith) i;
   }
 
-  -- and so they load alike, if the fuels are within the limit
+  -- and so they pass Shape alike, if the fuels are within the limit
+  alike-shapely : shapely s ≡ true → Fuels s′ → shapely s′ ≡ true
+  unfolding sheetOf
+  alike-shapely e f =
+      and-both (whole s′) (shaped (sheetOf s′)) (rw (need-same s s′ alike-tables (low 5 (omega arith)) (low 6 (omega arith)), alike .long) (and-left (whole s) (shaped (sheetOf s)) e))
+      (rw (alike-script, alike-grove) (other-fuels (scriptOf s) (groveOf s) _ _ (wordAt s′ 11) (wordAt s′ 12) (and-right (whole s) (shaped (sheetOf s)) e) (f .0) (f .1)))
+
+  -- and load alike
   pub alike-loads : Loads s done → sheetOf s′ .checkFuel ≤ most-fuel → sheetOf s′ .runFuel ≤ most-fuel → Loads s′ done
   unfolding sheetOf
-  alike-loads (sound e n u) c r = sound
-      (and-both (whole s′) (shaped (sheetOf s′)) (rw (need-same s s′ alike-tables (low 5 (omega arith)) (low 6 (omega arith)), alike .long) (and-left (whole s) (shaped (sheetOf s)) e))
-      (rw (alike-script, alike-grove) (other-fuels (scriptOf s) (groveOf s) _ _ (wordAt s′ 11) (wordAt s′ 12) (and-right (whole s) (shaped (sheetOf s)) e) c r)))
-      (rw alike-script n) (rw alike-script u)
+  alike-loads (sound e n u) c r = sound (alike-shapely e (c, r)) (rw alike-script n) (rw alike-script u)
+
+  alike-back : Alike s′ s
+  alike-back = record { long = sym (alike .long); low = λ i h. sym (alike .low i h); high = λ i h. sym (alike .high i h) }
+
+-- refused or not, where neither fuel alone breaks Shape
+same-load : {s s′ : List ℕ} {a : Answer} → Alike s s′ → (shapely s ≡ true → Fuels s′) → (shapely s′ ≡ true → Fuels s) → Loads s a → Loads s′ a
+same-load {s} {s′} k forth back (misshapen e) = misshapen (go (shapely s′) refl)
+  where
+    go : (b : Bool) → shapely s′ ≡ b → b ≡ false
+    go true h = absurd (not-both (alike-shapely s′ s (alike-back s s′ k) h (back h)) e)
+    go false h = refl
+same-load {s} {s′} k forth back (is-barren {x = x} e b) = is-barren {x = x} (alike-shapely s s′ k e (forth e)) (rw (alike-script s s′ k) b)
+same-load {s} {s′} k forth back (is-tied {a = a} {b = b} e n t) = is-tied {a = a} {b = b} (alike-shapely s s′ k e (forth e)) (rw (alike-script s s′ k) n) (rw (alike-script s s′ k) t)
+same-load {s} {s′} k forth back (sound e n u) = sound (alike-shapely s s′ k e (forth e)) (rw (alike-script s s′ k) n) (rw (alike-script s s′ k) u)
 
 -- ---- a sheet with another fuel
 
@@ -225,6 +249,9 @@ module _ (s : List ℕ) (k w : ℕ) where
       let high : getD (withWord s k w) (2 * k + 1) 0 ≡ w / 256 % 256 = getD-set-same (set s (2 * k) (w % 256)) (2 * k + 1) (w / 256 % 256) 0 (rw length-set long) in
       omega arith
 
+  with-word : (j : ℕ) → ¬ (j ≡ k) → wordAt (withWord s k w) j ≡ wordAt s j
+  with-word j d = ap₂ (λ x y. x + 256 * y) (with-other (2 * j) (omega arith) (omega arith)) (with-other (2 * j + 1) (omega arith) (omega arith))
+
   with-alike : 11 ≤ k → k ≤ 12 → Alike s (withWord s k w)
   with-alike p q = record {
     long = with-length;
@@ -236,9 +263,26 @@ module _ (s : List ℕ) (k w : ℕ) where
 loads-header : {s : List ℕ} → Loads s done → 26 ≤ length s
 loads-header {s} (sound e n u) = omega (arith, shaped-long s e)
 
-loads-within : {s : List ℕ} → Loads s done → (wordAt s 11 ≤ most-fuel) × (wordAt s 12 ≤ most-fuel)
+shapely-fuels : (s : List ℕ) → shapely s ≡ true → Fuels s
 unfolding sheetOf
-loads-within {s} (sound e n u) = let l = few (sheetOf s) (limits-pass s e) in (l .check-fuel, l .run-fuel)
+shapely-fuels s e = let l = few (sheetOf s) (limits-pass s e) in (l .check-fuel, l .run-fuel)
+
+loads-within : {s : List ℕ} → Loads s done → Fuels s
+loads-within {s} (sound e n u) = shapely-fuels s e
+
+-- a sheet with a greater fuel, within the limit, loads or is refused as before
+module _ (s : List ℕ) (w : ℕ) (limit : w ≤ most-fuel) where
+  pub check-load-stays : {a : Answer} → Loads s a → sheetOf s .checkFuel ≤ w → Loads (withCheckFuel s w) a
+  unfolding sheetOf
+  check-load-stays l more = same-load (with-alike s 11 w (omega arith) (omega arith))
+      (λ e. (rw (with-same s 11 w (omega (arith, shaped-long s e)) (omega arith)) limit, rw (with-word s 11 w 12 (omega arith)) (shapely-fuels s e .1)))
+      (λ e. (omega arith, rw (with-word s 11 w 12 (omega arith)) at (shapely-fuels (withCheckFuel s w) e .1))) l
+
+  pub run-load-stays : {a : Answer} → Loads s a → sheetOf s .runFuel ≤ w → Loads (withRunFuel s w) a
+  unfolding sheetOf
+  run-load-stays l more = same-load (with-alike s 12 w (omega arith) (omega arith))
+      (λ e. (rw (with-word s 12 w 11 (omega arith)) (shapely-fuels s e .0), rw (with-same s 12 w (omega (arith, shaped-long s e)) (omega arith)) limit))
+      (λ e. (rw (with-word s 12 w 11 (omega arith)) at (shapely-fuels (withRunFuel s w) e .0), omega arith)) l
 
 module _ (s : List ℕ) (loads : Loads s done) (w : ℕ) (limit : w ≤ most-fuel) where
   pub run-alike : Alike s (withRunFuel s w)
@@ -258,11 +302,11 @@ module _ (s : List ℕ) (loads : Loads s done) (w : ℕ) (limit : w ≤ most-fue
   -- the other fuel is the same
   pub check-fuel-stays : sheetOf (withRunFuel s w) .checkFuel ≡ sheetOf s .checkFuel
   unfolding sheetOf
-  check-fuel-stays = ap₂ (λ x y. x + 256 * y) (with-other s 12 w 22 (omega arith) (omega arith)) (with-other s 12 w 23 (omega arith) (omega arith))
+  check-fuel-stays = with-word s 12 w 11 (omega arith)
 
   pub run-fuel-stays : sheetOf (withCheckFuel s w) .runFuel ≡ sheetOf s .runFuel
   unfolding sheetOf
-  run-fuel-stays = ap₂ (λ x y. x + 256 * y) (with-other s 11 w 24 (omega arith) (omega arith)) (with-other s 11 w 25 (omega arith) (omega arith))
+  run-fuel-stays = with-word s 11 w 12 (omega arith)
 
   pub run-fuel-loads : Loads (withRunFuel s w) done
   unfolding sheetOf
@@ -272,16 +316,10 @@ module _ (s : List ℕ) (loads : Loads s done) (w : ℕ) (limit : w ≤ most-fue
   unfolding sheetOf
   check-fuel-loads = let k = loads-within loads in alike-loads s (withCheckFuel s w) check-alike loads (rw check-fuel-is limit) (rw run-fuel-stays (k .1))
 
--- ---- so: every greater fuel up to the limit
+-- ---- so: every greater run fuel up to the limit (the check's, and the run's over another slice: Replies)
 
 pub every-run-fuel : {s work result after : List ℕ} {u root : ℕ} (work′ : List ℕ) (w : ℕ) → Ran s work result done u root after → sheetOf s .runFuel ≤ w → w ≤ most-fuel → groveOf s .rows + w ≤ rowsLent work′
     → Ran (withRunFuel s w) work′ result done u root after
 every-run-fuel {s} work′ w r more limit lent =
     let l = ran-loads r in let g = alike-grove s (withRunFuel s w) (run-alike s l w limit) in let k = run-fuel-is s l w limit in
     steady-run s (withRunFuel s w) (alike-script s (withRunFuel s w) (run-alike s l w limit)) g r (rw k more) (run-fuel-loads s l w limit) (rw (g, k) lent)
-
-pub every-check-fuel : {s work : List ℕ} {a : Answer} {u : ℕ} (work′ : List ℕ) (w : ℕ) → Checked s work a u → Says a → sheetOf s .checkFuel ≤ w → w ≤ most-fuel → w ≤ rowsLent work′
-    → Checked (withCheckFuel s w) work′ a u
-every-check-fuel {s} work′ w c o more limit lent =
-    let l = says-loads c o in let k = check-fuel-is s l w limit in
-    steady-check s (withCheckFuel s w) (alike-script s (withCheckFuel s w) (check-alike s l w limit)) c o (rw k more) (check-fuel-loads s l w limit) (rw k lent)
