@@ -10,3 +10,4 @@ pub mod Places
 pub mod Sound
 pub mod Within
 pub mod Replies
+pub mod Answered
