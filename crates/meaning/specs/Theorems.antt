@@ -2,12 +2,12 @@
 pub mod Worked
 pub mod ExactCheck
 pub mod Single
+pub mod Answered
 pub mod ReadBack
 pub mod ExactRun
+pub mod Replies
 pub mod Steady
 pub mod Trip
 pub mod Places
 pub mod Sound
 pub mod Within
-pub mod Replies
-pub mod Answered
