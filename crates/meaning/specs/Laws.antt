@@ -7,6 +7,7 @@ pub mod Walk
 pub mod Figures
 pub mod Barren
 pub mod Pairs
+pub mod Decide
 pub mod Points
 pub mod Models
 pub mod Words

@@ -33,6 +33,7 @@ pub mod Sides
 pub mod Rows
 pub mod Tables
 pub mod Whole
+pub mod Decided
 
 -- inclusion between types at rows of a sheet that passes 2 to 4, the wanted one a declared type or a content: no pair of points that is reached is bad
 pub rows-within : (s : List ℕ) → Loads s done → (r w : ℕ) → inTable (scriptOf s .types) r ≡ true

@@ -178,7 +178,7 @@ module _ (s : List ℕ) (shape : shapely s ≡ true) where
   unfolding namesIn
   row-exact r f = point-exact (S .typeRow) (S .nameRow) (shaped-lower s shape) (shaped-labelled s shape) (shaped-once s shape) r f
 
-  wanted-each : (r : ℕ) → Wanted S r → (a : ℕ) → has (modelIn (S .typeRow) (S .nameRow) r) a ≡ true → Place (typesOf S) (Wanted S) r a
+  pub wanted-each : (r : ℕ) → Wanted S r → (a : ℕ) → has (modelIn (S .typeRow) (S .nameRow) r) a ≡ true → Place (typesOf S) (Wanted S) r a
   wanted-each r h = each-place (S .typeRow) (S .nameRow) (shaped-lower s shape) (shaped-labelled s shape) (S .types) named-low (Wanted S)
       (λ i l e. let c = label-content i e in (c .0, or-right (is-declared S (S .typeRow i .q)) (c .1))) r (table-high (S .types) r (h .0))
 

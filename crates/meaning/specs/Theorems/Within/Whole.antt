@@ -87,7 +87,7 @@ pick-over : (P : ℕ → Type 0) (b : Bool) (α β : Ty) → Over P α → Over 
 pick-over P true α β h g = h
 pick-over P false α β h g = g
 
-atom-over : (P : ℕ → Type 0) (n : ℕ) (τ : Ty) (a : ℕ) → Over P τ → Over P (atomAt n τ a)
+pub atom-over : (P : ℕ → Type 0) (n : ℕ) (τ : Ty) (a : ℕ) → Over P τ → Over P (atomAt n τ a)
 unfolding atomAt Over
 atom-over P n Ty.empty a h = tt
 atom-over P n Ty.text a h = tt
@@ -100,7 +100,7 @@ atom-over P n (Ty.name x) a h = h
 
 -- ---- each place once
 
-numbered-range : (n : ℕ) (τ : Ty) (a : ℕ) → has (numbered n τ) a ≡ true → (n < a) × (a ≤ n + atomsIn τ)
+pub numbered-range : (n : ℕ) (τ : Ty) (a : ℕ) → has (numbered n τ) a ≡ true → (n < a) × (a ≤ n + atomsIn τ)
 unfolding numbered atomsIn has
 numbered-range n Ty.empty a e = absurd (false≢true e)
 numbered-range n Ty.text a e = let h = eqb-true (suc n) a e in (omega arith, omega arith)
@@ -300,7 +300,7 @@ pub data Plain : Ty → Type 0 where
   plain-bool : Plain Ty.bool
 
 -- they have one place at most
-plain-place : {τ : Ty} → Plain τ → (a : ℕ) → has (numbered 0 τ) a ≡ true → 1 ≡ a
+pub plain-place : {τ : Ty} → Plain τ → (a : ℕ) → has (numbered 0 τ) a ≡ true → 1 ≡ a
 unfolding numbered has
 plain-place plain-empty a e = absurd (false≢true e)
 plain-place plain-text a e = eqb-true 1 a e
@@ -317,11 +317,11 @@ plainFrom plain-text = λ b. eqb 1 b
 plainFrom plain-bool = λ b. eqb 1 b
 
 -- no other type is asked about
-data Just (τ : Ty) : Ty → Type 0 where
+pub data Just (τ : Ty) : Ty → Type 0 where
   just : Just τ τ
 
 module _ (names : ℕ → Named) where
-  plain-each : {τ : Ty} → Plain τ → (k : Ty) → Just τ k → (a : ℕ) → has (numbered 0 k) a ≡ true → Place (allTypes names) (Just τ) k a
+  pub plain-each : {τ : Ty} → Plain τ → (k : Ty) → Just τ k → (a : ℕ) → has (numbered 0 k) a ≡ true → Place (allTypes names) (Just τ) k a
   unfolding numbered has atomOf atomAt
   plain-each plain-empty k just a e = absurd (false≢true e)
   plain-each plain-text k just a e = record { low = omega (arith, eqb-true 1 a e); sort = sort-text refl }
