@@ -2,6 +2,7 @@
 pub mod Worked
 pub mod ExactCheck
 pub mod Single
+pub mod Asked
 pub mod Answered
 pub mod ReadBack
 pub mod ExactRun

@@ -9,7 +9,7 @@ use native.Mathlib.Nat.{eq-or-lt-of-le, le-of-suc-le-suc}
 use native.Mathlib.Omega.{arith}
 use Rattle.meaning.specs.Forest.{nil}
 use Rattle.meaning.specs.Types.{Head, Head-discrete}
-use Rattle.meaning.specs.Laws.Bools.{and-left, and-right, and-both, no-right, either, not-both, never}
+use Rattle.meaning.specs.Laws.Bools.{and-left, and-right, either, not-both, never}
 use Rattle.meaning.specs.Laws.Pairs.{Side, Admitted, Lives, Free, Included, Closed, closed-included, Step, step, Comes, here, behind, inside}
 
 -- the lowest that has P, or none below n has
@@ -82,7 +82,8 @@ module _ (F W : Side) (X : Finite (F .State)) (Y : Finite (W .State)) (fb : F .S
   abbrev Good : Left → F .State → W .State → Type 0
   Good R u v = (F .ends u ≡ true → W .ends v ≡ true) × ((a : ℕ) → a < fb u → F .has u a ≡ true → Rivals R u v a)
 
-  inner? : (R : Left) (u : F .State) (v : W .State) (a b : ℕ) → ((n : ℕ) → F .head u a ≡ Head.label n → R (F .into u a) (W .into v b) ≡ true) ⊎ (((n : ℕ) → F .head u a ≡ Head.label n → R (F .into u a) (W .into v b) ≡ true) → ⊥)
+  inner? : (R : Left) (u : F .State) (v : W .State) (a b : ℕ)
+      → ((n : ℕ) → F .head u a ≡ Head.label n → R (F .into u a) (W .into v b) ≡ true) ⊎ (((n : ℕ) → F .head u a ≡ Head.label n → R (F .into u a) (W .into v b) ≡ true) → ⊥)
   inner? R u v a b = go (F .head u a) refl (either (R (F .into u a) (W .into v b)))
     where
       go : (h : Head) → F .head u a ≡ h → (R (F .into u a) (W .into v b) ≡ true) ⊎ (R (F .into u a) (W .into v b) ≡ false)

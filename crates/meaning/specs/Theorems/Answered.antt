@@ -1,47 +1,40 @@
--- Every input has a reply, so nothing said of replies is empty. Whether the tables pass 2 to 4 is decided, and so a run's reply exists; a check's, a fit's and apply's ask what is not decided here
--- (inclusion, and being of a type): for no input is there none. That there is one rests on the code, whose promises hold for every input.
+-- Every input has a reply, so nothing said of replies is empty: whether tables pass 2 to 4 is decided here, inclusion and being of a type in Within/Decided,
+-- and a walk whose questions are decided settles (Asked).
 use Prim.Native.Nat.{ℕ, zero, suc, _+_, _-_, _≤_, _<_}
 use mathlib.Core.Path.{_≡_, refl}
 use mathlib.Core.Bool.{Bool, true, false, _&&_, _||_, not}
 use mathlib.Core.List.{List, []}
 use mathlib.Core.Logic.{_⊎_, inl, inr}
 use native.Mathlib.Decide.{decLt, decLe}
-use native.Mathlib.Nat.{eq-or-lt-of-le, le-of-suc-le-suc}
 use native.Mathlib.Omega.{arith}
 use lib.Dec.{eqb}
-use Rattle.meaning.specs.Limits.{most-width}
 use Rattle.meaning.specs.Tests.{some, inTable}
 use Rattle.meaning.specs.Words.{rowsLent, zeroed}
 use Rattle.meaning.specs.Sheet.{scriptOf, groveOf, sheetOf}
-use Rattle.meaning.specs.Forest.{Forest, forestSize}
-use Rattle.meaning.specs.Types.{Named, size, namesIn}
-use Rattle.meaning.specs.Walk.{Walk, ret, halt, tick, ask, Judgement, pass, stop, Verdict, gives, stops, Settles, halted, short, paid, passed, Unasked}
+use Rattle.meaning.specs.Forest.{Forest, forestOf, forestSize}
+use Rattle.meaning.specs.Types.{Named, declared, namesIn}
+use Rattle.meaning.specs.Walk.{Verdict, gives, stops, Unasked}
 use Rattle.meaning.specs.Walk as walk
 use Rattle.meaning.specs.Run.{run-walk}
-use Rattle.meaning.specs.Check.{Question, Judged, too-wide, holds, fails, check-walk}
+use Rattle.meaning.specs.Check.{Judged}
 use Rattle.meaning.specs.Places.{Model, first, follows, same-head, headAt, modelIn, is-declared, is-content, rivals, tied, Tie, Untied, LowestBarren, NoneBarren}
 use Rattle.meaning.specs.Shape.{shapely}
-use Rattle.meaning.specs.Reply.{Answer, done, refused, barren, tie, shape, fuel, scratch, room, verdict-answer, stopped}
+use Rattle.meaning.specs.Reply.{Answer, done, refused, block, barren, tie, shape, fuel, unfit, scratch, room, verdict-answer, stopped}
 use Rattle.meaning.specs.Reply.{Loads, misshapen, is-barren, is-tied, sound, Checked, walked, Fitted, no-row, fits, misfits}
-use Rattle.meaning.specs.Reply.{Ran, ended, no-room, gave, given, run-settled, Applied, unchecked, unfitted, applied, Reply, CheckReply, FitReply, RunReply, ApplyReply}
+use Rattle.meaning.specs.Reply.{Ran, ended, no-room, gave, given, run-settled, Applied, unchecked}
+use Rattle.meaning.specs.Reply.{unfitted, applied, Reply, CheckReply, FitReply, RunReply, ApplyReply, opened}
+use Rattle.meaning.specs.Bundle.{framed, sheetIn}
+use Rattle.meaning.specs.Listing.{Told, loaded, Tells, not-framed, lent-work, lent-result}
 use Rattle.meaning.specs.Laws.Bools.{or-right, or-cases, and-left, and-right, either, not-both}
 use Rattle.meaning.specs.Laws.Tests.{some-of, table-low, table-high}
 use Rattle.meaning.specs.Laws.Barren.{fills, Over, marks, marks-all, Name, Earned, content-fertile, none-earned, Closed, unmarked-barren, Round, idle-round, contents-over}
 use Rattle.meaning.specs.Laws.Wired.{has}
 use Rattle.meaning.specs.Laws.Apart.{first-has, follows-has, model-below, shaped-lower}
 use Rattle.meaning.specs.Laws.Walk.{within-purse, settle-settles}
-
--- ---- the lowest that has P, or none below n has
-
-search : (P Q : ℕ → Type 0) → ((x : ℕ) → P x ⊎ Q x) → (n : ℕ) → ((x : ℕ) × (x < n) × P x × ((y : ℕ) → y < x → Q y)) ⊎ ((x : ℕ) → x < n → Q x)
-search P Q decide zero = inr (λ x h. absurd (omega arith))
-search P Q decide (suc n) = elim (search P Q decide n) [
-  | inl h ↦ inl (h .0, omega (arith, h .1), h .2, h .3)
-  | inr h ↦ elim (decide n) [
-    | inl p ↦ inl (n, omega arith, p, h)
-    | inr q ↦ inr (λ x l. elim (eq-or-lt-of-le l) [ inl e ↦ (let k : x ≡ n = omega arith in rw k q) | inr k ↦ h x (le-of-suc-le-suc k) ])
-  ]
-]
+use Rattle.meaning.specs.Laws.Decide.{search}
+use Rattle.meaning.specs.Theorems.Within.Decided.{of-decided}
+use Rattle.meaning.specs.Theorems.Asked.{check-settles}
+use Rattle.meaning.specs.Theorems.Replies.{tells-applied}
 
 -- ---- refusals 2 to 4 are decided
 
@@ -176,72 +169,86 @@ module _ (s work result : List ℕ) where
         | no n ↦ replied (refused scratch) 0 0 result (Ran.no-scratch l (omega arith))
       ]
 
--- ---- a check's, a fit's and apply's: for no input is there none
+-- ---- a check's
 
--- it is not so that none has P
-abbrev pub Possible : {A : Type 0} → (A → Type 0) → Type 0
-Possible {A} P = ((x : A) → P x → ⊥) → ⊥
+module _ (s work : List ℕ) where
+  abbrev CheckAnswered : Type 0
+  CheckAnswered = (R : Reply) × CheckReply s work R
 
--- a walk settles if each of its questions may be judged
-settles-some : {Q A : Type 0} (J : Q → Judgement → Type 0) → ((q : Q) → Possible (J q)) → (w : Walk Q A) (n : ℕ) → ((v : Verdict A) (m : ℕ) → Settles J w n v m → ⊥) → ⊥
-settles-some J may (ret x) n none = none _ _ walk.done
-settles-some J may (halt h) n none = none _ _ halted
-settles-some J may (tick w) zero none = none _ _ short
-settles-some J may (tick w) (suc n) none = settles-some J may w n λ v m t. none v m (paid t)
-settles-some J may (ask q w) n none = may q (by (λ k. settles-some J may w n λ v m t. none v m (passed k t)))
-  where
-    by : (J q pass → ⊥) → (j : Judgement) → J q j → ⊥
-    by f pass k = f k
-    by f (stop h) k = none _ _ (walk.refused k)
+  checked : (a : Answer) (units : ℕ) → Checked s work a units → CheckAnswered
+  checked a units c = (
+    record { answer = a; checkUnits = units; runUnits = 0; root = 0; result = []; work = zeroed work },
+    record { said = c; no-run = refl; no-root = refl; no-result = refl; clear = refl },
+  )
 
-judged-some : (names : ℕ → Named) (q : Question) → Possible (Judged names q)
-judged-some names q none = elim (decLt most-width (size (q .found))) [
-  | yes l ↦ none _ (too-wide l)
-  | no l ↦ none _ (fails (omega arith) λ h. none _ (holds (omega arith) h))
+  -- a reply to check exists for every input
+  pub check-answered : (R : Reply) × CheckReply s work R
+  check-answered = go (loads-some s .0) (loads-some s .1)
+    where
+      go : (a : Answer) → Loads s a → CheckAnswered
+      go (refused r) l = checked (refused r) 0 (Checked.unsound l)
+      go done l = elim (decLe (sheetOf s .checkFuel) (rowsLent work)) [
+        | yes n ↦ (let t = check-settles s l (sheetOf s .checkFuel) in
+            checked (verdict-answer (t .0)) (sheetOf s .checkFuel - t .1) (walked l n (t .2) refl (omega (arith, within-purse (Judged (namesIn (scriptOf s))) (t .2)))))
+        | no n ↦ checked (refused scratch) 0 (Checked.no-scratch l (omega arith))
+      ]
+
+-- ---- a fit's
+
+module _ (s : List ℕ) (t : ℕ) where
+  abbrev FitAnswered : Type 0
+  FitAnswered = (R : Reply) × FitReply s t R
+
+  fitted : (a : Answer) → Fitted s t a → FitAnswered
+  fitted a f = (
+    record { answer = a; checkUnits = 0; runUnits = 0; root = 0; result = []; work = [] },
+    record { said = f; no-check = refl; no-run = refl; no-root = refl; no-result = refl; no-work = refl },
+  )
+
+  -- a reply to fit exists for every input
+  pub fit-answered : (R : Reply) × FitReply s t R
+  fit-answered = elim (either (inTable (scriptOf s .types) t)) [
+    | inl e ↦ go e (loads-some s .0) (loads-some s .1)
+    | inr e ↦ fitted (refused shape) (no-row e)
+  ]
+    where
+      go : inTable (scriptOf s .types) t ≡ true → (a : Answer) → Loads s a → FitAnswered
+      go e (refused r) l = fitted (refused r) (Fitted.unsound e l)
+      go e done l = elim (of-decided (namesIn (scriptOf s)) (declared (scriptOf s) t) (forestOf (groveOf s))) [
+        | inl o ↦ fitted done (fits e l o)
+        | inr n ↦ fitted (refused unfit) (misfits e l n)
+      ]
+
+-- ---- apply's
+
+module _ (s work result : List ℕ) where
+  abbrev ApplyAnswered : Type 0
+  ApplyAnswered = (R : Reply) × ApplyReply s work result R
+
+  applies : (a : Answer) (u v root : ℕ) (after : List ℕ) → Applied s work result a u v root after → ApplyAnswered
+  applies a u v root after p = (
+    record { answer = a; checkUnits = u; runUnits = v; root = root; result = after; work = zeroed work },
+    record { said = p; clear = refl },
+  )
+
+  -- a reply to apply exists for every input
+  pub apply-answered : (R : Reply) × ApplyReply s work result R
+  apply-answered = let c = check-answered s work in from-check (c .0 .answer) (c .0 .checkUnits) (c .1 .said)
+    where
+      from-fit : (u : ℕ) → Checked s work done u → (a : Answer) → Fitted s (scriptOf s .a) a → ApplyAnswered
+      from-fit u c (refused r) f = applies (refused r) u 0 0 result (unfitted c f)
+      from-fit u c done f = let r = run-answered s work result in
+          applies (r .0 .answer) u (r .0 .runUnits) (r .0 .root) (r .0 .result) (applied c f (r .1 .said))
+
+      from-check : (a : Answer) (u : ℕ) → Checked s work a u → ApplyAnswered
+      from-check (refused r) u c = applies (refused r) u 0 0 result (unchecked c)
+      from-check done u c = let f = fit-answered s (scriptOf s .a) in from-fit u c (f .0 .answer) (f .1 .said)
+
+-- ---- and what the program tells of a bundle
+
+-- something is told of every bundle
+pub told-some : (b : List ℕ) → (t : Told) × Tells b t
+told-some b = elim (either (framed b)) [
+  | inl e ↦ (let r = apply-answered (sheetIn b) lent-work lent-result in let t = tells-applied b .0 (opened e (r .1)) in (t .0, t .1))
+  | inr e ↦ (loaded block, not-framed e)
 ]
-
--- a reply to check, for no input is there none
-pub check-possible : (s work : List ℕ) → Possible (CheckReply s work)
-check-possible s work none = go (loads-some s .0) (loads-some s .1)
-  where
-    said : (a : Answer) (u : ℕ) → Checked s work a u → ⊥
-    said a u c = none (record { answer = a; checkUnits = u; runUnits = 0; root = 0; result = []; work = zeroed work })
-        (record { said = c; no-run = refl; no-root = refl; no-result = refl; clear = refl })
-
-    go : (a : Answer) → Loads s a → ⊥
-    go (refused r) l = said _ _ (Checked.unsound l)
-    go done l = elim (decLe (sheetOf s .checkFuel) (rowsLent work)) [
-      | yes n ↦ settles-some (Judged (namesIn (scriptOf s))) (judged-some (namesIn (scriptOf s))) (check-walk (scriptOf s)) (sheetOf s .checkFuel)
-          λ v m t. said (verdict-answer v) (sheetOf s .checkFuel - m) (walked l n t refl (omega (arith, within-purse (Judged (namesIn (scriptOf s))) t)))
-      | no n ↦ said _ _ (Checked.no-scratch l (omega arith))
-    ]
-
--- nor for fit
-pub fit-possible : (s : List ℕ) (t : ℕ) → Possible (FitReply s t)
-fit-possible s t none = elim (either (inTable (scriptOf s .types) t)) [
-  | inl e ↦ go e (loads-some s .0) (loads-some s .1)
-  | inr e ↦ said _ (no-row e)
-]
-  where
-    said : (a : Answer) → Fitted s t a → ⊥
-    said a f = none (record { answer = a; checkUnits = 0; runUnits = 0; root = 0; result = []; work = [] })
-        (record { said = f; no-check = refl; no-run = refl; no-root = refl; no-result = refl; no-work = refl })
-
-    go : inTable (scriptOf s .types) t ≡ true → (a : Answer) → Loads s a → ⊥
-    go e (refused r) l = said _ (Fitted.unsound e l)
-    go e done l = said _ (misfits e l λ o. said _ (fits e l o))
-
--- nor for apply
-pub apply-possible : (s work result : List ℕ) → Possible (ApplyReply s work result)
-apply-possible s work result none = check-possible s work λ C c. checked (C .answer) (C .checkUnits) (c .said)
-  where
-    said : (a : Answer) (u v root : ℕ) (after : List ℕ) → Applied s work result a u v root after → ⊥
-    said a u v root after p = none (record { answer = a; checkUnits = u; runUnits = v; root = root; result = after; work = zeroed work }) (record { said = p; clear = refl })
-
-    fitted : (u : ℕ) → Checked s work done u → (a : Answer) → Fitted s (scriptOf s .a) a → ⊥
-    fitted u c (refused r) f = said _ _ _ _ _ (unfitted c f)
-    fitted u c done f = let r = run-answered s work result in said _ _ _ _ _ (applied c f (r .1 .said))
-
-    checked : (a : Answer) (u : ℕ) → Checked s work a u → ⊥
-    checked (refused r) u c = said _ _ _ _ _ (unchecked c)
-    checked done u c = fit-possible s (scriptOf s .a) λ F f. fitted u c (F .answer) (f .said)
