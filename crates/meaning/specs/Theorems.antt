@@ -1,4 +1,4 @@
--- The theorems: walks and figures, replies and figures, soundness, steadiness, one result, round trips, and the worked examples.
+-- The theorems: walks and figures, replies and figures, soundness, steadiness, one result, and one for every input, round trips, and the worked examples.
 pub mod Worked
 pub mod ExactCheck
 pub mod Single

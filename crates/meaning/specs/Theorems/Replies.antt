@@ -60,7 +60,7 @@ pub record RunShort (s work result : List ℕ) (units root : ℕ) (after : List 
   pub no-root : root ≡ 0
   pub untouched : after ≡ result
 
--- what a load refuses is not a walk's: 5 is not, nor done
+-- Fuel is no answer of a load
 load-fuel : {s : List ℕ} {a : Answer} → Loads s a → a ≡ refused fuel → ⊥
 load-fuel (misshapen e) h = never (cc)
 load-fuel (is-barren e b) h = never (cc)
