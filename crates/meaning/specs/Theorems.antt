@@ -1,9 +1,10 @@
--- The theorems: walks and figures, replies and figures, soundness, steadiness, one result, and one for every input, round trips, and the worked examples.
+-- The theorems: walks and figures, replies and figures, soundness, steadiness, one result, and one for every input, wrong programs refuted, round trips, and the worked examples.
 pub mod Worked
 pub mod ExactCheck
 pub mod Single
 pub mod Asked
 pub mod Answered
+pub mod Refuted
 pub mod ReadBack
 pub mod ExactRun
 pub mod Replies

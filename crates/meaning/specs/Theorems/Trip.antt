@@ -136,20 +136,20 @@ unfolding wordSum
 wordSum-same a b zero h = refl
 wordSum-same a b (suc n) h = rw (wordSum-same a b n (λ j l. h j (omega arith)), word-same a b (2 * suc n) n h (omega arith))
 
-check-same : (a b : List ℕ) → ((j : ℕ) → j < 510 → getD a j 0 ≡ getD b j 0) → checkWord a ≡ checkWord b
+pub check-same : (a b : List ℕ) → ((j : ℕ) → j < 510 → getD a j 0 ≡ getD b j 0) → checkWord a ≡ checkWord b
 check-same a b h = ap (λ (x : ℕ). x % 65535) (wordSum-same a b 255 h)
 
-length-front : (k : ℕ) (p : List ℕ) → length (blockFront k p) ≡ 510
+pub length-front : (k : ℕ) (p : List ℕ) → length (blockFront k p) ≡ 510
 length-front k p = ap (λ (x : ℕ). suc (suc x)) (length-filled 508 p)
 
-length-block : (k : ℕ) (p : List ℕ) → length (block k p) ≡ 512
+pub length-block : (k : ℕ) (p : List ℕ) → length (block k p) ≡ 512
 length-block k p = omega (arith, length-append (blockFront k p) (wordBytes (checkWord (blockFront k p))), length-front k p)
 
 -- a block has its number and its check
 block-number : (k : ℕ) (p : List ℕ) → k < 65536 → wordAt (block k p) 0 ≡ k
 block-number k p l = word-of-bytes k l
 
-block-check : (k : ℕ) (p : List ℕ) → wordAt (block k p) 255 ≡ checkWord (block k p)
+pub block-check : (k : ℕ) (p : List ℕ) → wordAt (block k p) 255 ≡ checkWord (block k p)
 block-check k p =
     let front = blockFront k p in
     let c = checkWord front in
@@ -158,7 +158,7 @@ block-check k p =
 
 -- ---- all blocks
 
-length-blocks : (m k : ℕ) (p : List ℕ) → length (blocks m k p) ≡ 512 * m
+pub length-blocks : (m k : ℕ) (p : List ℕ) → length (blocks m k p) ≡ 512 * m
 unfolding blocks
 length-blocks zero k p = refl
 length-blocks (suc m) k p =
@@ -166,7 +166,7 @@ length-blocks (suc m) k p =
     omega (arith, length-append (block k p) rest, length-block k p, length-blocks m (suc k) (drop 508 p))
 
 -- the block behind i others
-nth-block : (m k i : ℕ) (p : List ℕ) → i < m → take 512 (drop (512 * i) (blocks m k p)) ≡ block (k + i) (drop (508 * i) p)
+pub nth-block : (m k i : ℕ) (p : List ℕ) → i < m → take 512 (drop (512 * i) (blocks m k p)) ≡ block (k + i) (drop (508 * i) p)
 unfolding blocks
 nth-block zero k i p l = absurd (omega arith)
 nth-block (suc m) k zero p l =

@@ -228,7 +228,7 @@ ok7 : Loads (s7 3 9) done
 unfolding s7 shape ties
 ok7 = loads (s7 3 9) refl refl refl
 
-ok7-back : Loads (s7 9 3) done
+pub ok7-back : Loads (s7 9 3) done
 unfolding s7 shape ties
 ok7-back = loads (s7 9 3) refl refl refl
 
@@ -290,7 +290,7 @@ p11 : P11
 unfolding s11 runs
 p11 = (refl, refl, does ok11 0 refl refl refl refl)
 
-ok12 : Loads s12 done
+pub ok12 : Loads s12 done
 unfolding s12 shape ties
 ok12 = loads s12 refl refl refl
 
@@ -334,7 +334,7 @@ fit-whole : Fitted whole (scriptOf whole .a) done
 unfolding whole s1 tables
 fit-whole = fits refl ok-whole of-A-whole
 
-run-whole : Does whole 33 edited seven
+pub run-whole : Does whole 33 edited seven
 unfolding whole s1 runs
 run-whole = does ok-whole 4063 refl refl refl refl
 
