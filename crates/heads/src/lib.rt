@@ -10,6 +10,7 @@ ghost use Rattle.sheet.specs.Laid.{Laid, cellsOf};
 ghost use Rattle.bits.specs.Sets.{Clear};
 ghost use Rattle.heads.specs.Heads.{standsFor, actingAt, headNo, headNumber};
 ghost use Rattle.heads.specs.Classes.{Led, Classed, Classes};
+ghost use Rattle.heads.specs.Apart.{SaysApart};
 
 // The row that an atom's row stands for: a name's label row, and else itself.
 pub fn stands_for(s: &[u8], l: Layout, c: Row) -> Row
@@ -49,6 +50,26 @@ pub fn head(s: &[u8], l: Layout, a: usize) -> usize
     ensures { λ h. ⌜ h ≡ headNumber (now (s .entry)) a ⌝ }
 {
     head_of(acting(s, l, a))
+}
+
+// Whether no two places of the sheet have one head: then nothing is tied, and no set need be made.
+pub fn apart(s: &[u8], l: Layout) -> bool
+    requires { ⌜ Laid (now s) l ⌝ }
+    ensures { λ r. ⌜ SaysApart (now (s .entry)) r ⌝ }
+{
+    let mut seen = [0u8; 1026];
+    let mut i = 0;
+    while i < l.types {
+        i += 1;
+        let h = head(s, l, i);
+        if h < 1026 {
+            if seen[h] == 1 {
+                return false;
+            }
+            seen[h] = 1;
+        }
+    }
+    true
 }
 
 // A class, as a row.

@@ -1,7 +1,7 @@
 -- What the points say is what the meaning calls tied: at the start of a root, by the first sets; behind a place, by the next sets of the one root whose model has it. So the lowest tie of the points is the lowest tie.
 use Prim.Native.Nat.{ℕ, _≤_, _<_}
-use mathlib.Core.Path.{_≡_, sym, _∙_}
-use mathlib.Core.Bool.{Bool, true, false, _&&_, not}
+use mathlib.Core.Path.{_≡_, refl, sym, _∙_}
+use mathlib.Core.Bool.{Bool, true, false, _&&_, _||_, not}
 use mathlib.Core.List.{List}
 use mathlib.Core.Logic.{inl, inr}
 use native.Mathlib.Omega.{arith}
@@ -31,7 +31,8 @@ use Rattle.ties.specs.declared.Tied.{Tied}
 use Rattle.ties.specs.declared.Soundness.{Soundness}
 use Rattle.ties.specs.declared.Soundness.the-variants.{Done, Barren, Tie as Tying}
 use Rattle.heads.specs.Heads.{headNumber, place-head, head-place, heads-same}
-use Rattle.ties.specs.Points.{PointTie, Least, AtStart, AtPlace, Upto}
+use Rattle.heads.specs.Apart.{Apart}
+use Rattle.ties.specs.Points.{no-tie, PointTie, Least, AtStart, AtPlace, Upto}
 
 module _ (s : List ℕ) (e : shapely s ≡ true) where
   -- a place of the model at row r
@@ -55,6 +56,39 @@ module _ (s : List ℕ) (e : shapely s ≡ true) where
     small = place-head s e a (v .1);
   }
 
+  -- what makes two places rivals in a model
+  rival-parts : (m : Model) (a b : ℕ) → rivals (scriptOf s .typeRow) (scriptOf s .nameRow) (scriptOf s .types) m a b ≡ true
+      → (a ≡ b → ⊥) × (same-head (headAt (scriptOf s .typeRow) (scriptOf s .nameRow) a) (headAt (scriptOf s .typeRow) (scriptOf s .nameRow) b) ≡ true)
+      × (first m a && first m b || some (λ c. follows m c a && follows m c b) (scriptOf s .types) ≡ true)
+  rival-parts m a b y = (eqb-false a b (not-true (eqb a b) (and-left (not (eqb a b)) heads both)), and-right (not (eqb a b)) heads both, and-right (not (eqb a b) && heads) _ y)
+    where
+      heads : Bool
+      heads = same-head (headAt (scriptOf s .typeRow) (scriptOf s .nameRow) a) (headAt (scriptOf s .typeRow) (scriptOf s .nameRow) b)
+
+      both : not (eqb a b) && heads ≡ true
+      both = and-left (not (eqb a b) && heads) _ y
+
+  -- rivals are two places of one head
+  no-rivals : Apart s → (r a b : ℕ) → inTable (scriptOf s .types) r ≡ true → rivals (scriptOf s .typeRow) (scriptOf s .nameRow) (scriptOf s .types) (modelOf s r) a b ≡ true → ⊥
+  no-rivals A r a b h y = elim (or-cases (first (modelOf s r) a && first (modelOf s r) b) _ (rival-parts (modelOf s r) a b y .2)) [
+    | inl w ↦ one (first-has (modelOf s r) a (and-left (first (modelOf s r) a) _ w)) (first-has (modelOf s r) b (and-right (first (modelOf s r) a) (first (modelOf s r) b) w))
+    | inr w ↦ (let x = some-of (λ c. follows (modelOf s r) c a && follows (modelOf s r) c b) (scriptOf s .types) w in
+        one (follows-has (modelOf s r) (x .0) a (and-left (follows (modelOf s r) (x .0) a) _ (x .3)))
+        (follows-has (modelOf s r) (x .0) b (and-right (follows (modelOf s r) (x .0) a) (follows (modelOf s r) (x .0) b) (x .3))))
+  ]
+    where
+      one : has (modelOf s r) a ≡ true → has (modelOf s r) b ≡ true → ⊥
+      one p q = let v = rival-parts (modelOf s r) a b y in let t = tie-at (λ x. true) r a b h p q (v .0) (v .1) refl refl in t .ne (A .one a b (t .a-row) (t .b-row) (t .head) (t .small))
+
+  -- so where no two places have one head nothing is tied
+  pub apart-untied : Apart s → Untied (scriptOf s)
+  unfolding tied
+  apart-untied A a b = elim (either (tied (scriptOf s) a b)) [
+    | inl y ↦ (let x = some-of (λ r. isRoot s r && rivals (scriptOf s .typeRow) (scriptOf s .nameRow) (scriptOf s .types) (modelOf s r) a b) (scriptOf s .types) y in
+        absurd (no-rivals A (x .0) a b (in-table (scriptOf s .types) (x .0) (x .1) (x .2)) (and-right (isRoot s (x .0)) _ (x .3))))
+    | inr y ↦ y
+  ]
+
   module _ {null begin behind′ root : List ℕ} (T : Tables (scriptOf s .typeRow) (scriptOf s .types) null begin) (R : Rooted s root) (W : Wires (scriptOf s .typeRow) root behind′ (scriptOf s .types)) where
     root-flag : (r : ℕ) → inTable (scriptOf s .types) r ≡ true → flag root r ≡ isRoot s r
     root-flag r h = R .at r (omega (arith, table-high (scriptOf s .types) r h, few-types s e))
@@ -65,9 +99,17 @@ module _ (s : List ℕ) (e : shapely s ≡ true) where
     -- tied in the model at a root
     tied-at : (r a b : ℕ) → inTable (scriptOf s .types) r ≡ true → isRoot s r ≡ true → rivals (scriptOf s .typeRow) (scriptOf s .nameRow) (scriptOf s .types) (modelOf s r) a b ≡ true
         → Upto s root begin behind′ (scriptOf s .types) a b
-    tied-at r a b h z y = elim (or-cases (first (modelOf s r) a && first (modelOf s r) b) _ (and-right (not (eqb a b) && heads) _ y)) [
+    tied-at r a b h z y = let v = rival-parts (modelOf s r) a b y in elim (or-cases (first (modelOf s r) a && first (modelOf s r) b) _ (v .2)) [
       | inl w ↦ (let p = and-left (first (modelOf s r) a) _ w in let q = and-right (first (modelOf s r) a) (first (modelOf s r) b) w in
-          record { point = r; row = h; at = inl (root-flag r h ∙ z, tie-at (setOf begin r) r a b h (first-has (modelOf s r) a p) (first-has (modelOf s r) b q) ne hd (T .begin r h a ∙ p) (T .begin r h b ∙ q)) })
+          record {
+            point = r;
+            row = h;
+            at = inl (
+              root-flag r h ∙ z,
+              tie-at (setOf begin r) r a b h (first-has (modelOf s r) a p) (first-has (modelOf s r) b q) (v .0) (v .1)
+                  (T .begin r h a ∙ p) (T .begin r h b ∙ q),
+            );
+          })
       | inr w ↦ (let x = some-of (λ c. follows (modelOf s r) c a && follows (modelOf s r) c b) (scriptOf s .types) w in
           let c = x .0 in
           let p : follows (modelOf s r) c a ≡ true = and-left (follows (modelOf s r) c a) _ (x .3) in
@@ -78,23 +120,11 @@ module _ (s : List ℕ) (e : shapely s ≡ true) where
             row = placed r c h m .0;
             at = inr (
               place-head s e c (placed r c h m .1),
-              tie-at (setOf behind′ c) r a b h (follows-has (modelOf s r) c a p) (follows-has (modelOf s r) c b q) ne hd
+              tie-at (setOf behind′ c) r a b h (follows-has (modelOf s r) c a p) (follows-has (modelOf s r) c b q) (v .0) (v .1)
                   (next-set r c a h (root-flag r h ∙ z) m ∙ or-left _ p) (next-set r c b h (root-flag r h ∙ z) m ∙ or-left _ q),
             );
           })
     ]
-      where
-        heads : Bool
-        heads = same-head (headAt (scriptOf s .typeRow) (scriptOf s .nameRow) a) (headAt (scriptOf s .typeRow) (scriptOf s .nameRow) b)
-
-        both : not (eqb a b) && heads ≡ true
-        both = and-left (not (eqb a b) && heads) _ y
-
-        ne : a ≡ b → ⊥
-        ne w = eqb-false a b (not-true (eqb a b) (and-left (not (eqb a b)) heads both)) w
-
-        hd : heads ≡ true
-        hd = and-right (not (eqb a b)) heads both
 
     pub tied-upto : (a b : ℕ) → tied (scriptOf s) a b ≡ true → Upto s root begin behind′ (scriptOf s .types) a b
     unfolding tied
@@ -161,6 +191,10 @@ module _ {s : List ℕ} {l : Layout} (L : Laid s l) (e : shapely s ≡ true) whe
   pub says-tie : {null begin behind′ root : List ℕ} → Tables (row3 s (l .«types_at») (l .types)) (l .types) null begin → Rooted s root → Wires (row3 s (l .«types_at») (l .types)) root behind′ (l .types) → {r : Tied} → Least (Upto s root begin behind′ (scriptOf s .types)) r → SaysTie s r
   unfolding scriptOf
   says-tie T R W f = let T′ = laid-tables L T in let W′ = rw (L .types) at (laid-wires L W) in record { none = untied s e T′ R W′ f; lowest = lowest-tie s e T′ R W′ f }
+
+-- where no two places have one head
+pub says-apart : {s : List ℕ} → shapely s ≡ true → Apart s → SaysTie s no-tie
+says-apart {s} e A = record { none = λ z. apart-untied s e A; lowest = λ n. absurd (n refl) }
 
 pub loads-barren : {s : List ℕ} {x : ℕ} → shapely s ≡ true → SaysBarren s x → (x ≡ 0 → ⊥) → Loads s (Answer.refused (reply.Refusal.barren x))
 loads-barren e b n = reply.Loads.is-barren e (b .lowest n)

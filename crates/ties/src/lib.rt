@@ -165,8 +165,8 @@ fn tie(
     best
 }
 
-// The lowest tie of a sheet: its tables, then all points.
-fn lowest_tie(s: &[u8], l: Layout) -> Tied
+// The lowest tie of a sheet by its tables: these, then all points.
+fn by_tables(s: &[u8], l: Layout) -> Tied
     requires { ⌜ shapely (now s) ≡ true ⌝ }
     requires { ⌜ Laid (now s) l ⌝ }
     ensures { λ r. ⌜ SaysTie (now (s .entry)) r ⌝ }
@@ -193,6 +193,18 @@ fn lowest_tie(s: &[u8], l: Layout) -> Tied
     tie(s, l, &root, &first, &behind, &class, &same)
 }
 
+// The lowest tie of a sheet. Where no two places have one head there is none, and the tables are not made.
+fn lowest_tie(s: &[u8], l: Layout) -> Tied
+    requires { ⌜ shapely (now s) ≡ true ⌝ }
+    requires { ⌜ Laid (now s) l ⌝ }
+    ensures { λ r. ⌜ SaysTie (now (s .entry)) r ⌝ }
+{
+    if heads::apart(s, l) {
+        return Tied { row: 0, rival: 0 };
+    }
+    by_tables(s, l)
+}
+
 // Refusals 3 and 4, of a sheet that is well shaped.
 pub enum Soundness {
     Done,
@@ -200,19 +212,18 @@ pub enum Soundness {
     Tie(Tied),
 }
 
-// Both are judged, and then told in the document's order: Barren before Tie.
+// In the document's order, Barren before Tie: where a name is barren no tie is looked for.
 pub fn sound(s: &[u8], l: Layout) -> Soundness
     requires { ⌜ shapely (now s) ≡ true ⌝ }
     requires { ⌜ Laid (now s) l ⌝ }
     ensures { λ r. ⌜ Loads (now (s .entry)) (soundOf r) ⌝ }
 {
     let x = barren::barren(s, l);
-    let t = lowest_tie(s, l);
-    let row = t.row;
     if x != 0 {
         return Soundness::Barren(x);
     }
-    if row != 0 {
+    let t = lowest_tie(s, l);
+    if t.row != 0 {
         return Soundness::Tie(t);
     }
     Soundness::Done

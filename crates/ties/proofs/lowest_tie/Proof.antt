@@ -1,48 +1,24 @@
--- `ties::lowest_tie` meets its contract: the tables are the sheet's, so the lowest tie of the points is its lowest tie.
-use Prim.Native.Nat.{ℕ}
-use mathlib.Core.Path.{refl}
-use native.Mathlib.Omega.{arith}
-use lib.ListN.{length-replicate}
-use Rattle.barren.specs.Flags.{unset}
-use Rattle.places.specs.Tables.{clear-zeros}
-use Rattle.sheet.specs.Laid.{types-lie}
-use Rattle.places.specs.Sheets.{laid-rows}
-use Rattle.ties.specs.Sound.{free-rows, says-tie}
+-- `ties::lowest_tie` meets its contract: nothing is tied where no two places have one head, and else the tables say it.
+use borrow.Author.Needs.{needs}
+use Rattle.ties.specs.Sound.{says-apart}
 use Rattle.ties.proofs.lowest_tie.Statement.{statement}
 use Rattle.ties.proofs.lowest_tie.Tie as tie
 use Rattle.ties.proofs.lowest_tie.Reads as reads
 use Rattle.ties.proofs.lowest_tie.Lts as lts
-use Rattle.places.proofs.behinds.Reads as behinds-reads
-use Rattle.places.proofs.firsts.Reads as firsts-reads
-use Rattle.roots.proofs.roots.Reads as roots-reads
-use Rattle.heads.proofs.classes.Reads as classes-reads
-use Rattle.ties.proofs.tie.Reads as tie-reads
+use Rattle.heads.proofs.apart.Reads as apart-reads
+use Rattle.ties.proofs.by_tables.Reads as by-tables-reads
 
-firsts-requires : tie.Need-firsts-requires
-firsts-requires c κs = (laid-rows (c .before .before .before .pre .1) (c .before .before .before .pre .0), (types-lie (c .before .before .before .pre .1), (length-replicate {A = ℕ} 513 0, clear-zeros)))
-
-roots-requires : tie.Need-roots-requires
-roots-requires c κs = ((c .before .before .before .before .before .pre .1), (length-replicate {A = ℕ} 513 0, unset 513))
-
-behinds-requires : tie.Need-behinds-requires
-behinds-requires c κs = (laid-rows (c .before .before .before .before .before .before .before .before .before .before .pre .1) (c .before .before .before .before .before .before .before .before .before .before .pre .0), (types-lie (c .before .before .before .before .before .before .before .before .before .before .pre .1), (omega arith, (c .before .before .before .before .before .before .firsts .ensures, (free-rows (c .before .before .before .before .before .before .before .before .before .before .pre .1) (c .before .before .before .before .before .before .before .before .before .before .pre .0) (c .before .before .before .before .roots .ensures), clear-zeros)))))
-
-classes-requires : tie.Need-classes-requires
-classes-requires c κs = ((c .before .before .before .before .before .before .before .before .before .before .before .before .before .pre .0), ((c .before .before .before .before .before .before .before .before .before .before .before .before .before .pre .1), (refl, clear-zeros)))
-
-tie-requires : tie.Need-tie-requires
-tie-requires c κs = ((c .before .before .before .before .before .before .before .before .before .before .before .before .before .before .before .before .before .before .before .pre .0), ((c .before .before .before .before .before .before .before .before .before .before .before .before .before .before .before .before .before .before .before .pre .1), c .before .before .before .before .before .classes .ensures))
+apart-requires : tie.Need-apart-requires
+apart-requires c κs = search needs
 
 returns : tie.Need-returns
-returns c = says-tie (c .before .before .before .before .before .before .before .before .before .before .before .before .before .before .before .before .before .before .before .before .pre .1) (c .before .before .before .before .before .before .before .before .before .before .before .before .before .before .before .before .before .before .before .before .pre .0) (c .before .before .before .before .before .before .before .before .before .before .before .before .before .before .before .before .firsts .ensures) (c .before .before .before .before .before .before .before .before .before .before .before .before .before .before .roots .ensures) (c .before .before .before .before .before .before .before .before .before .behinds .ensures) (c .tie .ensures)
+returns c = says-apart (c .before .before .before .pre .0) (c .before .apart .ensures .yes (c .if1 .taken))
+
+by-tables-requires : tie.Need-by-tables-requires
+by-tables-requires c κs = search needs
+
+returns-2 : tie.Need-returns-2
+returns-2 c = search needs
 
 pub lowest-tie-spec : {M : Type 1} → statement M
-lowest-tie-spec =
-    tie.close
-    (tie.spec
-    firsts-requires
-    roots-requires
-    behinds-requires
-    classes-requires
-    tie-requires
-    returns)
+lowest-tie-spec = tie.close (tie.spec apart-requires returns by-tables-requires returns-2)

@@ -11,17 +11,17 @@ use Rattle.ties.proofs.lowest_tie.Reads as lowest-tie-reads
 barren-requires : tie.Need-barren-requires
 barren-requires c κs = search needs
 
+returns : tie.Need-returns
+returns c = loads-barren (c .before .before .before .pre .0) (c .before .barren .ensures) (c .if1 .taken)
+
 lowest-tie-requires : tie.Need-lowest-tie-requires
 lowest-tie-requires c κs = search needs
 
-returns : tie.Need-returns
-returns c = loads-barren (c .before .before .before .before .pre .0) (c .before .before .barren .ensures) (c .if1 .taken)
-
 returns-2 : tie.Need-returns-2
-returns-2 c = loads-tie (c .before .before .before .before .before .pre .0) (c .before .before .before .barren .ensures) (c .before .if1 .left) (c .before .before .lowest-tie .ensures) (c .if2 .taken)
+returns-2 c = loads-tie (c .before .before .before .before .before .before .pre .0) (c .before .before .before .before .barren .ensures) (c .before .before .before .if1 .left) (c .before .before .lowest-tie .ensures) (c .if2 .taken)
 
 returns-3 : tie.Need-returns-3
-returns-3 c = loads-sound (c .before .before .before .before .before .pre .0) (c .before .before .before .barren .ensures) (c .before .if1 .left) (c .before .before .lowest-tie .ensures) (c .if2 .left)
+returns-3 c = loads-sound (c .before .before .before .before .before .before .pre .0) (c .before .before .before .before .barren .ensures) (c .before .before .before .if1 .left) (c .before .before .lowest-tie .ensures) (c .if2 .left)
 
 pub sound-spec : {M : Type 1} → statement M
-sound-spec = tie.close (tie.spec barren-requires lowest-tie-requires returns returns-2 returns-3)
+sound-spec = tie.close (tie.spec barren-requires returns lowest-tie-requires returns-2 returns-3)
