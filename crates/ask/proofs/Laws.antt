@@ -25,7 +25,8 @@ use Rattle.walk.specs.declared.Stop.the-variants.{Stuck}
 use Rattle.rows.specs.Rows.{Pushed, MakeAsks, made, GatherAsks, Gathered}
 use Rattle.rows.specs.Asks.{leaf-asks}
 use Rattle.rows.specs.Each.{Looping, loop-start, loop-ready, loop-asks, loop-done, loop-falls, loop-stop, loop-more, one-ready, one-stop, one-keep, one-links, one-more}
-use Rattle.ask.specs.Ask.{pool, Asks, fits, fits-body, asked, row-asked, body-asked, a-place, fits-turn, fits-more, asked-after, body-after, asked-with}
+use Rattle.walk.specs.Fits.{fits, fits-body, a-place, fits-turn, fits-more}
+use Rattle.ask.specs.Ask.{pool, Asks, asked, row-asked, body-asked, asked-after, body-after, asked-with}
 
 -- Stuck at a query row
 pub met-stuck : {w : Quiet Forest} {byte : ℕ → ℕ} {used : ℕ} {old new : List ℕ} (at : ℕ) (p : Purse) → w ≡ halt (stuck (of-query at)) → Meets w byte (p .left) used old new (Not (Stuck at 1 p))

@@ -1,54 +1,24 @@
--- What a query asks and what it goes as: the walk of a row in the rows as they are. The scope finds its places by Shape's test, in as many steps as there are levels of depth left.
-use Prim.Native.Nat.{ℕ, suc, _+_, _-_, _≤_, _<_}
-use native.Mathlib.Omega.{arith}
+-- What a query asks and what it goes as: the walk of a row in the rows as they are. The scope finds its places by Shape's test (walk/specs/Fits).
+use Prim.Native.Nat.{ℕ, _+_, _-_, _≤_, _<_}
 use mathlib.Core.Path.{_≡_, refl, sym, ap, _∙_, subst}
-use mathlib.Core.Bool.{Bool, true, _&&_, cond}
+use mathlib.Core.Bool.{Bool, true}
 use mathlib.Core.List.{List, [], _∷_, _++_}
-use borrow.Author.Tests.{ltb-true}
-use lib.Dec.{eqb}
 use lib.ListN.{length}
-use lib.Seq.{length-take-le}
 use Rattle.meaning.specs.Sheet.{scriptOf, groveOf}
-use Rattle.meaning.specs.Kinds.{Query, queryForm, queryAt}
+use Rattle.meaning.specs.Kinds.{Query, queryAt}
 use Rattle.meaning.specs.Forest.{Forest, forestAt}
-use Rattle.meaning.specs.Shape.{Holds, a-forest, a-tree, has-place, query-scope, query-scoped}
 use Rattle.meaning.specs.Walk.{Quiet, tick}
 use Rattle.meaning.specs.Run.{query, query-of}
-use Rattle.meaning.specs.Laws.Bools.{and-left, and-right}
 use Rattle.meaning.specs.Laws.Rows.{LowRows, SameRows}
 use Rattle.meaning.specs.Theorems.ReadBack.{lentRow}
-use Rattle.sheet.specs.Laid.{cellsOf}
 use Rattle.sheet.specs.Whole.{Whole}
-use Rattle.sheet.specs.declared.Row.{Row}
-use Rattle.walk.specs.Scope.{live, envOf, Scoped, More, scoped-with, env-same, env-with}
+use Rattle.walk.specs.Scope.{envOf, Scoped, More, scoped-with, env-same, env-with}
+use Rattle.walk.specs.Fits.{deeper}
 use Rattle.walk.specs.Meets.{Ready, Finished, Stopped, Meets, Ran, ran-tick, stop-tick, stop-depth, ready-after, ready-less}
-use Rattle.walk.specs.declared.Place.{Place}
 use Rattle.walk.specs.declared.Scope.{Scope}
 use Rattle.walk.specs.declared.Purse.{Purse}
 use Rattle.walk.specs.declared.Answer.{Answer}
 use Rattle.walk.specs.declared.Stop.the-variants.{Fuel, Depth}
-
--- ---- a scope's shape: a place of kind 2 holds a tree
-
-abbrev pub holdsOf : ℕ → Holds
-holdsOf k = cond (eqb k 2) a-tree a-forest
-
-unfoldable pub held : List Place → List Holds
-held [] = []
-held (p ∷ l) = holdsOf (p .kind) ∷ held l
-
-abbrev pub shapeOf : Scope → List Holds
-shapeOf e = held (live e)
-
--- Shape's test of a query row, of what a row says, and of a body with a tree variable more
-abbrev pub fits : List ℕ → ℕ → Scope → ℕ → Bool
-fits s d e at = query-scoped (scriptOf s) d (shapeOf e) at
-
-abbrev pub fits-row : List ℕ → ℕ → Scope → Query → Bool
-fits-row s d e form = query-scope form (query-scoped (scriptOf s) d) (shapeOf e)
-
-abbrev pub fits-body : List ℕ → ℕ → Scope → ℕ → Bool
-fits-body s d e at = has-place (shapeOf e) && query-scoped (scriptOf s) d (shapeOf e ++ a-tree ∷ []) at
 
 -- ---- the walks
 
@@ -89,110 +59,12 @@ module _ {s : List ℕ} {rows : List ℕ} {e : Scope} {used focus left : ℕ} {f
   pub asks-with : {e' : Scope} {fit' : Bool} {k v : ℕ} → More e e' k v → e .count < 16 → v ≤ used → fit' ≡ true → Asks s rows e' used focus left fit'
   asks-with {e'} m h i g = record { whole = a .whole; ready = record { roomy = a .ready .roomy; scoped = scoped-with (a .ready .scoped) h i m; focus = a .ready .focus }; scope = g }
 
--- ---- Shape's test, taken apart
-
-held-length : (l : List Place) → length (held l) ≡ length l
-unfolding held
-held-length [] = refl
-held-length (p ∷ l) = ap suc (held-length l)
-
-held-last : (l : List Place) (p : Place) → held (l ++ p ∷ []) ≡ held l ++ holdsOf (p .kind) ∷ []
-unfolding held
-held-last [] p = refl
-held-last (o ∷ l) p = ap (λ (x : List Holds). holdsOf (o .kind) ∷ x) (held-last l p)
-
--- the shape with a place more
-pub shape-with : {e e' : Scope} {k v : ℕ} → More e e' k v → shapeOf e' ≡ shapeOf e ++ holdsOf k ∷ []
-shape-with {e} {e'} {k} {v} m = ap held (m .live) ∙ held-last (live e) (record { kind = k; value = v })
-
--- a binder finds a place
-pub a-place : {n : ℕ} {e : Scope} → Scoped n e → has-place (shapeOf e) ≡ true → e .count < 16
-a-place {n} {e} c h =
-    let full = length-take-le (e .count) (e .places) (omega (arith, c .few, c .sixteen)) in
-    let lt = ltb-true (length (shapeOf e)) 16 h in
-    omega (arith, held-length (live e))
-
-module _ (s : List ℕ) (d : ℕ) (e : Scope) where
-  abbrev go : List Holds → ℕ → Bool
-  go = query-scoped (scriptOf s) d
-
-  pub fits-join : (p q : ℕ) → fits-row s d e (Query.join p q) ≡ true → (fits s d e p ≡ true) × (fits s d e q ≡ true)
-  unfolding query-scope
-  fits-join p q h = (and-left (fits s d e p) (fits s d e q) h, and-right (fits s d e p) (fits s d e q) h)
-
-  pub fits-same : (p q : ℕ) → fits-row s d e (Query.same p q) ≡ true → (fits s d e p ≡ true) × (fits s d e q ≡ true)
-  unfolding query-scope
-  fits-same p q h = (and-left (fits s d e p) (fits s d e q) h, and-right (fits s d e p) (fits s d e q) h)
-
-  pub fits-tree : (n q : ℕ) → fits-row s d e (Query.tree n q) ≡ true → fits s d e q ≡ true
-  unfolding query-scope
-  fits-tree n q h = h
-
-  pub fits-pick : (p n : ℕ) → fits-row s d e (Query.pick p n) ≡ true → fits s d e p ≡ true
-  unfolding query-scope
-  fits-pick p n h = h
-
-  pub fits-if : (p q r : ℕ) → fits-row s d e (Query.if p q r) ≡ true → (fits s d e p ≡ true) × (fits s d e q ≡ true) × (fits s d e r ≡ true)
-  unfolding query-scope
-  fits-if p q r h =
-      let pq = and-left (fits s d e p && fits s d e q) (fits s d e r) h in
-      (and-left (fits s d e p) (fits s d e q) pq, and-right (fits s d e p) (fits s d e q) pq, and-right (fits s d e p && fits s d e q) (fits s d e r) h)
-
-  pub fits-let : (p q : ℕ) → fits-row s d e (Query.letin p q) ≡ true → (fits s d e p ≡ true) × (has-place (shapeOf e) ≡ true) × (go (shapeOf e ++ a-forest ∷ []) q ≡ true)
-  unfolding query-scope
-  fits-let p q h =
-      let pq = and-left (fits s d e p && has-place (shapeOf e)) (go (shapeOf e ++ a-forest ∷ []) q) h in
-      (and-left (fits s d e p) (has-place (shapeOf e)) pq, and-right (fits s d e p) (has-place (shapeOf e)) pq, and-right (fits s d e p && has-place (shapeOf e)) (go (shapeOf e ++ a-forest ∷ []) q) h)
-
-  pub fits-for : (p q : ℕ) → fits-row s d e (Query.for p q) ≡ true → (fits s d e p ≡ true) × (fits-body s d e q ≡ true)
-  unfolding query-scope
-  fits-for p q h =
-      let pq = and-left (fits s d e p && has-place (shapeOf e)) (go (shapeOf e ++ a-tree ∷ []) q) h in
-      let b = and-right (fits s d e p && has-place (shapeOf e)) (go (shapeOf e ++ a-tree ∷ []) q) h in
-      (and-left (fits s d e p) (has-place (shapeOf e)) pq, rw (and-right (fits s d e p) (has-place (shapeOf e)) pq, b))
-
-  pub fits-turn : (q : ℕ) → fits-body s d e q ≡ true → (has-place (shapeOf e) ≡ true) × (go (shapeOf e ++ a-tree ∷ []) q ≡ true)
-  fits-turn q h = (and-left (has-place (shapeOf e)) (go (shapeOf e ++ a-tree ∷ []) q) h, and-right (has-place (shapeOf e)) (go (shapeOf e ++ a-tree ∷ []) q) h)
-
-  -- with the place
-  pub fits-more : {e' : Scope} {k v : ℕ} (q : ℕ) → More e e' k v → go (shapeOf e ++ holdsOf k ∷ []) q ≡ true → fits s d e' q ≡ true
-  fits-more q m h = ap (λ (x : List Holds). go x q) (shape-with m) ∙ h
-
 -- ---- what a row says
 
--- kinds that no query has
-five-up : {k : ℕ} → (k ≡ 0 → ⊥) → (k ≡ 1 → ⊥) → (k ≡ 2 → ⊥) → (k ≡ 3 → ⊥) → (k ≡ 4 → ⊥) → 5 ≤ k
-five-up a b c d e = omega arith
-
-ten-up : {k : ℕ} → 5 ≤ k → (k ≡ 5 → ⊥) → (k ≡ 6 → ⊥) → (k ≡ 7 → ⊥) → (k ≡ 8 → ⊥) → (k ≡ 9 → ⊥) → 10 ≤ k
-ten-up h a b c d e = omega arith
-
-last-up : {k : ℕ} → 10 ≤ k → (k ≡ 10 → ⊥) → (k ≡ 11 → ⊥) → (k ≡ 12 → ⊥) → (k ≡ 13 → ⊥) → 14 ≤ k
-last-up h a b c d = omega arith
-
-pub fourteen-up : {k : ℕ} → (k ≡ 0 → ⊥) → (k ≡ 1 → ⊥) → (k ≡ 2 → ⊥) → (k ≡ 3 → ⊥) → (k ≡ 4 → ⊥) → (k ≡ 5 → ⊥) → (k ≡ 6 → ⊥) → (k ≡ 7 → ⊥) → (k ≡ 8 → ⊥) → (k ≡ 9 → ⊥) → (k ≡ 10 → ⊥) → (k ≡ 11 → ⊥) → (k ≡ 12 → ⊥) → (k ≡ 13 → ⊥) → 14 ≤ k
-fourteen-up a b c d e f g h i j k l m n = last-up (ten-up (five-up a b c d e) f g h i j) k l m n
-
-module _ (s : List ℕ) (at : ℕ) (c : Row) (is : cellsOf c ≡ scriptOf s .queryRow at) where
-  pub form-is : (n : ℕ) → c .kind ≡ n → queryAt (scriptOf s) at ≡ queryForm (record { kind = n; p = c .p; q = c .q; r = c .r })
-  form-is n e = ap queryForm (sym is) ∙ ap (λ (j : ℕ). queryForm (record { kind = j; p = c .p; q = c .q; r = c .r })) e
-
-  pub form-none : 14 ≤ c .kind → queryAt (scriptOf s) at ≡ Query.none
-  form-none h =
-      let e : c .kind ≡ suc (suc (suc (suc (suc (suc (suc (suc (suc (suc (suc (suc (suc (suc (c .kind - 14)))))))))))))) = omega arith in
-      form-is (suc (suc (suc (suc (suc (suc (suc (suc (suc (suc (suc (suc (suc (suc (c .kind - 14))))))))))))))) e
-
 module _ (s : List ℕ) (e : Scope) (d at : ℕ) {form : Query} (some : d ≡ 0 → ⊥) (is : queryAt (scriptOf s) at ≡ form) where
-  deeper : d ≡ suc (d - 1)
-  deeper = omega arith
-
-  pub fits-form : fits s d e at ≡ true → fits-row s (d - 1) e form ≡ true
-  unfolding query-scoped
-  fits-form h = ap (λ (x : Query). fits-row s (d - 1) e x) (sym is) ∙ ap (λ (n : ℕ). fits s n e at) (sym deeper) ∙ h
-
   asked-is : (rows : List ℕ) → asked s rows e d at ≡ tick (row-asked s rows e (d - 1) at form)
   unfolding query
-  asked-is rows = ap (λ (n : ℕ). asked s rows e n at) deeper ∙ ap (λ (x : Query). tick (row-asked s rows e (d - 1) at x)) is
+  asked-is rows = ap (λ (n : ℕ). asked s rows e n at) (deeper d some) ∙ ap (λ (x : Query). tick (row-asked s rows e (d - 1) at x)) is
 
   pub ask-as : {rows new : List ℕ} {left' used : ℕ} {a : Answer} (left : ℕ) → left' + 1 ≡ left → Meets (row-asked s rows e (d - 1) at form) (pool s) left' used rows new a → Ran (asked s rows e d at) (pool s) left used rows new a
   ask-as {rows} {new} {left'} {used} {a} left p m = subst (λ (w : Quiet Forest). Ran w (pool s) left used rows new a) (sym (asked-is rows)) (ran-tick left p m)

@@ -19,7 +19,8 @@ ghost use Rattle.meaning.specs.Theorems.ReadBack.{lentRow};
 ghost use Rattle.walk.specs.Meets.{Roomy, Meets, Ran};
 ghost use Rattle.walk.specs.Loop.{Links, Turns, alone, gathered, turnOf};
 ghost use Rattle.rows.specs.Rows.{Readable};
-ghost use Rattle.ask.specs.Ask.{Asks, pool, fits, fits-row, fits-body, asked, row-asked, body-asked};
+ghost use Rattle.walk.specs.Fits.{fits, fits-row, fits-body};
+ghost use Rattle.ask.specs.Ask.{Asks, pool, asked, row-asked, body-asked};
 
 // The kind of a bool's row.
 fn kind_of(b: bool) -> usize

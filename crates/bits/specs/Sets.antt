@@ -26,6 +26,13 @@ pub record Added (old new : List ℕ) (k i : ℕ) : Type 0 where
   pub into : (x : ℕ) → x < 576 → inSet new k x ≡ inSet old k x || eqb i x
   pub others : (h x : ℕ) → (h ≡ k → ⊥) → x < 576 → inSet new h x ≡ inSet old h x
 
+-- set k has place i no more, and no other set is changed
+pub record Removed (old new : List ℕ) (k i : ℕ) : Type 0 where
+  pub size : length new ≡ length old
+  pub here : inSet new k i ≡ false
+  pub into : (x : ℕ) → (x ≡ i → ⊥) → x < 576 → inSet new k x ≡ inSet old k x
+  pub others : (h x : ℕ) → (h ≡ k → ⊥) → x < 576 → inSet new h x ≡ inSet old h x
+
 -- set k has the members of set j of u besides, and no other set is changed
 pub record United (old new : List ℕ) (k : ℕ) (u : List ℕ) (j : ℕ) : Type 0 where
   pub size : length new ≡ length old

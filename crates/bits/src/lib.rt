@@ -1,11 +1,12 @@
 // Sets of places as the bits of u64 words. A table of 513 sets lies in one array: set `k` is the nine words from word 9 k on, room for places 0 (End) to 575.
 ghost use mathlib.Core.Path.{_≡_};
+ghost use mathlib.Core.Bool.{true};
 ghost use Prim.Native.Nat.{_+_, _*_, _/_, _%_, _^_, _<_, _≤_};
 ghost use lib.Dec.{leb};
 ghost use lib.ListN.{getD, length};
 ghost use lib.Bits.{bitAnd};
 ghost use lib.Count.{trailingZeros, ones};
-ghost use Rattle.bits.specs.Sets.{inSet, inBoth, Added, United, LowestBoth};
+ghost use Rattle.bits.specs.Sets.{inSet, inBoth, Added, Removed, United, LowestBoth};
 ghost use Rattle.bits.specs.Counts.{countTo};
 
 // 2 to the power of `k`.
@@ -32,6 +33,17 @@ pub fn add(t: &mut [u64; 4617], k: usize, i: usize)
 {
     let w = 9 * k + i / 64;
     t[w] = t[w] | power(i % 64);
+}
+
+// Takes place `i` out of set `k`.
+pub fn remove(t: &mut [u64; 4617], k: usize, i: usize)
+    requires { ⌜ length (now t) ≡ 4617 ⌝ }
+    requires { ⌜ (k ≤ 512) × (i < 576) ⌝ }
+    requires { ⌜ inSet (now t) k i ≡ true ⌝ }
+    ensures { λ _. ⌜ Removed (now (t .entry)) (now (t .exit)) k i ⌝ }
+{
+    let w = 9 * k + i / 64;
+    t[w] = t[w] ^ power(i % 64);
 }
 
 // Adds the members of set `j` of `u` to set `k`.

@@ -27,7 +27,7 @@ use Rattle.walk.specs.declared.Stop.the-variants.{Fuel, Depth, Stuck}
 use Rattle.walk.specs.declared.Answer as walk
 use Rattle.walk.specs.declared.Answer.the-variants.{Done, Not}
 use Rattle.rows.specs.Rows.{Readable}
-use Rattle.ask.specs.Ask.{held}
+use Rattle.walk.specs.Fits.{held}
 use Rattle.sheet.specs.Whole.{whole-shaped}
 use Rattle.edit.specs.Edit.{Edits, fits, went}
 use Rattle.room.specs.Hands.{HandsBy}

@@ -28,8 +28,9 @@ use Rattle.walk.specs.declared.Stop.the-variants.{Stuck}
 use Rattle.rows.specs.Rows.{Pushed, made}
 use Rattle.rows.specs.Each.{Looping}
 use Rattle.rows.specs.Table.{read-forest, forest-none}
-use Rattle.ask.specs.Ask as ask
-use Rattle.ask.specs.Ask.{fourteen-up, pool, asked, shapeOf, held, shape-with, env-after, asked-after}
+use Rattle.walk.specs.Fits as walk
+use Rattle.walk.specs.Fits.{fourteen-up, shapeOf, held, shape-with}
+use Rattle.ask.specs.Ask.{pool, asked, env-after, asked-after}
 use Rattle.edit.specs.Edit.{fits, fits-row, on, went, row-went, body-went, fateOf}
 use Rattle.edit.specs.declared.Fate.{Fate}
 use Rattle.edit.specs.declared.Fate.the-variants.{Misfit, Matched, Passed}
@@ -354,15 +355,15 @@ module _ (s : List ℕ) (d c q r : ℕ) {rows : List ℕ} {e : Scope} {used focu
 
 -- a call's queries are in scope
 module _ (s : List ℕ) (d : ℕ) (e : Scope) (c q r : ℕ) (some : q ≡ 0 → ⊥) where
-  pub first-fits : fits-row s d e (Statement.call c (present q r)) ≡ true → ask.fits s d e q ≡ true
+  pub first-fits : fits-row s d e (Statement.call c (present q r)) ≡ true → walk.fits s d e q ≡ true
   unfolding statement-scope arguments-scope
   first-fits h =
       let l = first-of q r some in
-      and-left (ask.fits s d e q) (arguments-scope (query-scoped (scriptOf s) d (shapeOf e)) (l .0)) (rw (l .1) at h)
+      and-left (walk.fits s d e q) (arguments-scope (query-scoped (scriptOf s) d (shapeOf e)) (l .0)) (rw (l .1) at h)
 
-  pub both-fit : (r ≡ 0 → ⊥) → fits-row s d e (Statement.call c (present q r)) ≡ true → ask.fits s d e r ≡ true
+  pub both-fit : (r ≡ 0 → ⊥) → fits-row s d e (Statement.call c (present q r)) ≡ true → walk.fits s d e r ≡ true
   unfolding statement-scope arguments-scope
-  both-fit more h = and-left (ask.fits s d e r) true (and-right (ask.fits s d e q) (ask.fits s d e r && true) (rw (present-two q r some more) at h))
+  both-fit more h = and-left (walk.fits s d e r) true (and-right (walk.fits s d e q) (walk.fits s d e r && true) (rw (present-two q r some more) at h))
 
 -- ---- an insert
 

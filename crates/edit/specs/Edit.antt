@@ -23,8 +23,9 @@ use Rattle.walk.specs.declared.Scope.{Scope}
 use Rattle.walk.specs.declared.Purse.{Purse}
 use Rattle.walk.specs.declared.Answer.{Answer}
 use Rattle.walk.specs.declared.Stop.the-variants.{Fuel, Depth}
-use Rattle.ask.specs.Ask.{Asks, pool, shapeOf, holdsOf, shape-with, asks-less, asks-after, asks-with}
-use Rattle.ask.specs.Ask as ask
+use Rattle.walk.specs.Fits.{shapeOf, holdsOf, shape-with}
+use Rattle.ask.specs.Ask.{Asks, pool, asks-less, asks-after, asks-with}
+use Rattle.walk.specs.Fits as walk
 use Rattle.edit.specs.declared.Fate.{Fate}
 use Rattle.edit.specs.declared.Fate.the-variants.{Misfit, Matched, Passed}
 
@@ -96,17 +97,17 @@ module _ (s : List ℕ) (d : ℕ) (e : Scope) where
   unfolding statement-scope
   fits-then p q h = (and-left (fits s d e p) (fits s d e q) h, and-right (fits s d e p) (fits s d e q) h)
 
-  pub fits-if : (p q r : ℕ) → fits-row s d e (Statement.if p q r) ≡ true → (ask.fits s d e p ≡ true) × (fits s d e q ≡ true) × (fits s d e r ≡ true)
+  pub fits-if : (p q r : ℕ) → fits-row s d e (Statement.if p q r) ≡ true → (walk.fits s d e p ≡ true) × (fits s d e q ≡ true) × (fits s d e r ≡ true)
   unfolding statement-scope
   fits-if p q r h =
-      let pq = and-left (ask.fits s d e p && fits s d e q) (fits s d e r) h in
-      (and-left (ask.fits s d e p) (fits s d e q) pq, and-right (ask.fits s d e p) (fits s d e q) pq, and-right (ask.fits s d e p && fits s d e q) (fits s d e r) h)
+      let pq = and-left (walk.fits s d e p && fits s d e q) (fits s d e r) h in
+      (and-left (walk.fits s d e p) (fits s d e q) pq, and-right (walk.fits s d e p) (fits s d e q) pq, and-right (walk.fits s d e p && fits s d e q) (fits s d e r) h)
 
-  pub fits-let : (p q : ℕ) → fits-row s d e (Statement.letin p q) ≡ true → (ask.fits s d e p ≡ true) × (has-place (shapeOf e) ≡ true) × (go (shapeOf e ++ a-forest ∷ []) q ≡ true)
+  pub fits-let : (p q : ℕ) → fits-row s d e (Statement.letin p q) ≡ true → (walk.fits s d e p ≡ true) × (has-place (shapeOf e) ≡ true) × (go (shapeOf e ++ a-forest ∷ []) q ≡ true)
   unfolding statement-scope
   fits-let p q h =
-      let pq = and-left (ask.fits s d e p && has-place (shapeOf e)) (go (shapeOf e ++ a-forest ∷ []) q) h in
-      (and-left (ask.fits s d e p) (has-place (shapeOf e)) pq, and-right (ask.fits s d e p) (has-place (shapeOf e)) pq, and-right (ask.fits s d e p && has-place (shapeOf e)) (go (shapeOf e ++ a-forest ∷ []) q) h)
+      let pq = and-left (walk.fits s d e p && has-place (shapeOf e)) (go (shapeOf e ++ a-forest ∷ []) q) h in
+      (and-left (walk.fits s d e p) (has-place (shapeOf e)) pq, and-right (walk.fits s d e p) (has-place (shapeOf e)) pq, and-right (walk.fits s d e p && has-place (shapeOf e)) (go (shapeOf e ++ a-forest ∷ []) q) h)
 
   pub fits-snapshot : (p : ℕ) → fits-row s d e (Statement.snapshot p) ≡ true → (has-place (shapeOf e) ≡ true) × (go (shapeOf e ++ a-forest ∷ []) p ≡ true)
   unfolding statement-scope
@@ -116,7 +117,7 @@ module _ (s : List ℕ) (d : ℕ) (e : Scope) where
   unfolding statement-scope
   fits-test t r h = h
 
-  pub fits-insert : (p : ℕ) → fits-row s d e (Statement.insert p) ≡ true → ask.fits s d e p ≡ true
+  pub fits-insert : (p : ℕ) → fits-row s d e (Statement.insert p) ≡ true → walk.fits s d e p ≡ true
   unfolding statement-scope
   fits-insert p h = h
 

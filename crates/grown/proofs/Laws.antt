@@ -4,7 +4,7 @@ use native.Mathlib.Omega.{arith}
 use mathlib.Core.Path.{_≡_, refl, sym, ap, _∙_, subst}
 use mathlib.Core.Bool.{true}
 use mathlib.Core.List.{List}
-use Rattle.meaning.specs.Sheet.{Cells, Script, scriptOf, types-of}
+use Rattle.meaning.specs.Sheet.{Cells, Script, scriptOf}
 use Rattle.meaning.specs.Kinds.{TypeRow, typeForm, typeAt}
 use Rattle.meaning.specs.Types.{Ty, Named, tyForm, tyAt, declared, namesIn, atomOf}
 use Rattle.meaning.specs.Types as types
@@ -15,8 +15,7 @@ use Rattle.meaning.specs.Laws.Apart.{Low, ty-row, tyAt-same}
 use Rattle.meaning.specs.Laws.Walk.{leads-tick}
 use Rattle.meaning.specs.Theorems.ReadBack.{lentRow}
 use Rattle.meaning.specs.Theorems.Within.Rows.{named-low, name-content}
-use Rattle.sheet.specs.Laid.{Laid, cellsOf}
-use Rattle.sheet.specs.declared.Layout.{Layout}
+use Rattle.sheet.specs.Laid.{cellsOf}
 use Rattle.sheet.specs.declared.Row.{Row}
 use Rattle.rows.specs.Rows.{Pushed}
 use Rattle.walk.specs.declared.Purse.{Purse}
@@ -25,21 +24,16 @@ use Rattle.grown.specs.Finds.{top, Judges, WriteAsks, Typed, Finds, find
 use Rattle.grown.specs.declared.Found.{Found}
 use Rattle.grown.specs.declared.Found.the-variants.{Done, Not}
 
-module _ {s : List ℕ} {l : Layout} (laid : Laid s l) where
-  pub types-is : l .types ≡ scriptOf s .types
-  unfolding scriptOf
-  types-is = laid .types
+module _ (s work : List ℕ) (n r : ℕ) {types : ℕ} (types-is : types ≡ scriptOf s .types) where
+  pub read-sheet : {c : Cells} → r ≤ types → c ≡ scriptOf s .typeRow r → c ≡ typeIn s work n r
+  read-sheet h e = e ∙ sym (in-sheet s work n r (omega (arith, types-is)))
 
-  module _ (work : List ℕ) (n r : ℕ) where
-    pub read-sheet : {c : Cells} → r ≤ l .types → c ≡ scriptOf s .typeRow r → c ≡ typeIn s work n r
-    read-sheet h e = e ∙ sym (in-sheet s work n r (omega (arith, types-is)))
-
-    pub read-work : {c : Cells} → l .types < r → r ≤ scriptOf s .types + n → c ≡ lentRow work (r - l .types) → c ≡ typeIn s work n r
-    read-work h i e = e ∙ ap (λ (t : ℕ). lentRow work (r - t)) types-is ∙ sym (in-work s work n r (omega (arith, types-is)) i)
+  pub read-work : {c : Cells} → types < r → r ≤ scriptOf s .types + n → c ≡ lentRow work (r - types) → c ≡ typeIn s work n r
+  read-work h i e = e ∙ ap (λ (t : ℕ). lentRow work (r - t)) types-is ∙ sym (in-work s work n r (omega (arith, types-is)) i)
 
 -- ---- a row is written
 
-module _ {s : List ℕ} {l : Layout} {work new : List ℕ} {used kind p q left : ℕ} (a : WriteAsks s l work used kind p q left) (pushed : Pushed work new used (record { kind = kind; p = p; q = q; r = 0 })) where
+module _ {s work new : List ℕ} {used kind p q left : ℕ} (a : WriteAsks s work used kind p q left) (pushed : Pushed work new used (record { kind = kind; p = p; q = q; r = 0 })) where
   abbrev cells : Cells
   cells = record { kind = kind; p = p; q = q; r = 0 }
 
@@ -50,10 +44,10 @@ module _ {s : List ℕ} {l : Layout} {work new : List ℕ} {used kind p q left :
   value = ty-more s work new used cells (a .room .grows) pushed more
       ∙ ty-row (typeForm cells) (top s + (used + 1)) (a .low) (tyIn s new (used + 1)) (tyIn s work used) (λ j h. ty-kept s work new used (used + 1) (omega arith) (pushed .same) (a .room .grows) j (omega arith))
 
-  pub wrote : {root last : ℕ} (rest : Purse) → rest .left + 1 ≡ left → last ≡ used + 1 → root ≡ l .types + last
+  pub wrote : {types root last : ℕ} (rest : Purse) → rest .left + 1 ≡ left → last ≡ used + 1 → types ≡ top s → root ≡ types + last
       → Finds (written (tyForm (typeForm (record { kind = kind; p = p; q = q; r = 0 })) (tyIn s work used))) s left used work new (Done root last rest)
-  wrote {root} {last} rest pd is at =
-      let here : root ≡ top s + (used + 1) = omega (arith, types-is (a .laid)) in
+  wrote {types} {root} {last} rest pd is count at =
+      let here : root ≡ top s + (used + 1) = omega arith in
       let said : tyIn s new last root ≡ tyForm (typeForm cells) (tyIn s work used) = ap (λ (m : ℕ). tyIn s new m root) is ∙ ap (tyIn s new (used + 1)) here ∙ value in
       let end : Settles (Judges s) (ret (tyForm (typeForm cells) (tyIn s work used))) (rest .left) (gives (tyIn s new last root)) (rest .left) =
       subst (λ (τ : Ty). Settles (Judges s) (ret (tyForm (typeForm cells) (tyIn s work used))) (rest .left) (gives τ) (rest .left)) (sym said) done in

@@ -11,8 +11,7 @@ use Rattle.meaning.specs.Types as types
 use Rattle.meaning.specs.Tests.{inTable}
 use Rattle.meaning.specs.Kinds.{typeForm}
 use Rattle.meaning.specs.Laws.Apart.{Low}
-use Rattle.sheet.specs.Laid.{Laid}
-use Rattle.sheet.specs.declared.Layout.{Layout}
+use Rattle.sheet.specs.Whole.{Whole}
 use Rattle.meaning.specs.Check.{Question, Judged, Asking}
 use Rattle.meaning.specs.Walk.{Place, Walk, ret, halt, tick, _>>=_, Verdict, gives, fuel, stops, Settles, done, halted, short}
 use Rattle.meaning.specs.Walk as meaning
@@ -205,8 +204,8 @@ types-fresh {e} s work n f = rw (f .none)
 
 -- ---- a row is written
 
-pub record WriteAsks (s : List ℕ) (l : Layout) (work : List ℕ) (used kind p q left : ℕ) : Type 0 where
-  pub laid : Laid s l
+pub record WriteAsks (s work : List ℕ) (used kind p q left : ℕ) : Type 0 where
+  pub whole : Whole s
   pub room : Room s work used left
   pub low : Low (typeForm (record { kind = kind; p = p; q = q; r = 0 })) (top s + (used + 1))
   pub known : kind ≡ 8 → inTable (scriptOf s .names) p ≡ true

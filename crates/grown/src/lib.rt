@@ -1,5 +1,4 @@
 // Types as a check keeps them: a value is a row of the sheet's table or, past its last, one written to the lent rows. 0 is (). Rows refer to lower rows, so old values stay true.
-use sheet::Layout;
 use sheet::Row;
 use walk::Purse;
 use walk::Taken;
@@ -11,7 +10,8 @@ ghost use Rattle.meaning.specs.Shape.{shapely};
 ghost use Rattle.meaning.specs.Kinds.{typeForm};
 ghost use Rattle.meaning.specs.Types.{tyForm};
 ghost use Rattle.meaning.specs.Check.{written};
-ghost use Rattle.sheet.specs.Laid.{Laid, cellsOf};
+ghost use Rattle.sheet.specs.Laid.{cellsOf};
+ghost use Rattle.sheet.specs.Whole.{Whole};
 ghost use Rattle.grown.specs.Grown.{typeIn, tyIn, Grows};
 ghost use Rattle.grown.specs.Finds.{WriteAsks, Finds, Acts};
 
@@ -19,9 +19,9 @@ ghost use Rattle.grown.specs.Finds.{WriteAsks, Finds, Acts};
 pub enum Halt {
     Fuel,
     Depth(Purse),
-    Wide(usize, u8, Purse),
-    Mismatch(usize, u8, Purse),
-    Outside(usize, u8, Purse),
+    Wide(usize, usize, Purse),
+    Mismatch(usize, usize, Purse),
+    Outside(usize, usize, Purse),
 }
 
 pub enum Found {
@@ -34,20 +34,20 @@ pub enum Found {
 }
 
 // Type row `r`.
-pub fn row(s: &[u8], l: Layout, work: &[u8], r: usize) -> Row
-    requires { ⌜ (Laid (now s) l) × (r < 65536) ⌝ }
+pub fn row(s: &[u8], work: &[u8], r: usize) -> Row
+    requires { ⌜ (Whole (now s)) × (r < 65536) ⌝ }
     ensures { λ c. ⌜ ((n : ℕ) → r ≤ scriptOf (now (s .entry)) .types + n → cellsOf c ≡ typeIn (now (s .entry)) (now (work .entry)) n r) ⌝ }
 {
-    if r <= l.types {
-        return sheet::type_row(s, l, r);
+    let types = sheet::types_of(s);
+    if r <= types {
+        return sheet::type_at(s, r);
     }
-    rows::any_row(work, r - l.types)
+    rows::any_row(work, r - types)
 }
 
 // A row is written: one unit.
 pub fn write(
     s: &[u8],
-    l: Layout,
     work: &mut [u8],
     used: usize,
     kind: usize,
@@ -55,7 +55,7 @@ pub fn write(
     q: usize,
     purse: Purse,
 ) -> Found
-    requires { ⌜ WriteAsks (now s) l (now work) used kind p q (purse .left) ⌝ }
+    requires { ⌜ WriteAsks (now s) (now work) used kind p q (purse .left) ⌝ }
     ensures { λ a. ⌜ Finds (written (tyForm (typeForm (record { kind = kind; p = p; q = q; r = 0 })) (tyIn (now (s .entry)) (now (work .entry)) used))) (now (s .entry)) (purse .left) used (now (work .entry)) (now (work .exit)) a ⌝ }
 {
     match purse.take() {
@@ -63,7 +63,7 @@ pub fn write(
         Taken::Left(rest) => {
             let last = rows::push(work, used, kind, p, q, 0);
             Found::Done {
-                root: l.types + last,
+                root: sheet::types_of(s) + last,
                 used: last,
                 purse: rest,
             }
@@ -79,18 +79,18 @@ pub enum Atom {
     Label(usize, usize),
 }
 
-pub fn atom_of(s: &[u8], l: Layout, work: &[u8], r: usize) -> Atom
-    requires { ⌜ (shapely (now s) ≡ true) × (Laid (now s) l) × (r < 65536) ⌝ }
+pub fn atom_of(s: &[u8], work: &[u8], r: usize) -> Atom
+    requires { ⌜ (shapely (now s) ≡ true) × (r < 65536) ⌝ }
     ensures { λ a. ⌜ ((n : ℕ) → Grows (now (s .entry)) (now (work .entry)) n → r ≤ scriptOf (now (s .entry)) .types + n → Acts (now (s .entry)) (now (work .entry)) n r a) ⌝ }
 {
-    let c = row(s, l, work, r);
+    let c = row(s, work, r);
     let kind = c.kind;
     match kind {
         2 => Atom::Text,
         3 => Atom::Bool,
         4 => Atom::Label(c.p, c.q),
         8 => {
-            let n = sheet::type_row(s, l, sheet::name_row(s, l, c.p));
+            let n = sheet::type_at(s, sheet::name_at(s, c.p));
             Atom::Label(n.p, n.q)
         }
         0..=1 | 5..=7 | 9..=65535 => Atom::Other,

@@ -38,6 +38,7 @@ pub record Classed (s class same : List ℕ) (i : ℕ) : Type 0 where
 pub record Classes (s class same : List ℕ) : Type 0 where
   pub leader : (h : ℕ) → h < 1026 → getD class h 0 ≤ scriptOf s .types
   pub members : (h : ℕ) → h < 1026 → (b : ℕ) → b < 576 → inSet same (getD class h 0) b ≡ inTable (scriptOf s .types) b && eqb (headNumber s b) h
+  pub none : (b : ℕ) → b < 576 → inSet same 0 b ≡ false
 
 pub classed-none : (s same : List ℕ) → Clear same → Classed s (replicate 1026 0) same 0
 classed-none s same c = record {
@@ -151,4 +152,4 @@ module _ {s class same : List ℕ} {i : ℕ} (f : Classed s class same i) where
 
 pub classes-all : {s : List ℕ} {l : Layout} → Laid s l → {class same : List ℕ} {i : ℕ} → i ≡ l .types → Classed s class same i → Classes s class same
 unfolding scriptOf
-classes-all {s} L z f = let w : _ ≡ scriptOf s .types = z ∙ L .types in record { leader = λ h p. rw w at (f .leader h p); members = λ h p b q. rw w at (f .members h p b q) }
+classes-all {s} L z f = let w : _ ≡ scriptOf s .types = z ∙ L .types in record { leader = λ h p. rw w at (f .leader h p); members = λ h p b q. rw w at (f .members h p b q); none = f .none 0 (inl refl) }

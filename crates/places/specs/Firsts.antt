@@ -175,6 +175,7 @@ firsts-none row t c = record { size = c .size; at = λ j p q. absurd (omega arit
 
 pub tables : {row : ℕ → Cells} {n : ℕ} → Rows row n → {null t : List ℕ} {i : ℕ} → n < i → Nulls row null i → Firsts row t i → Tables row n null t
 tables {row} {n} R {null} {t} {i} h N f = record {
+  size = f .size;
   empty = λ r x. N .at r (table-low n r x) (omega (arith, table-high n r x));
   begin = λ r x b. go r x b (either (ltb b 576));
 }

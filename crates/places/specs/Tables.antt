@@ -51,6 +51,7 @@ pub record Firsts (row : ℕ → Cells) (t : List ℕ) (i : ℕ) : Type 0 where
 
 -- both, for every row
 pub record Tables (row : ℕ → Cells) (n : ℕ) (null t : List ℕ) : Type 0 where
+  pub size : length t ≡ 4617
   pub empty : (r : ℕ) → inTable n r ≡ true → flag null r ≡ nullable (rowModel row r)
   pub begin : (r : ℕ) → inTable n r ≡ true → (b : ℕ) → setOf t r b ≡ first (rowModel row r) b
 

@@ -145,7 +145,7 @@ fn fall(
 }
 
 // End stands behind row `i`, if that is a root.
-fn end(root: &[u8; 513], i: usize, behind: &mut [u64; 4617])
+pub fn end(root: &[u8; 513], i: usize, behind: &mut [u64; 4617])
     requires { ⌜ length (now behind) ≡ 4617 ⌝ }
     requires { ⌜ i ≤ 512 ⌝ }
     ensures { λ _. ⌜ Ended (now (behind .entry)) (now (behind .exit)) (now (root .entry)) i ⌝ }

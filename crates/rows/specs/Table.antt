@@ -22,20 +22,20 @@ use Rattle.rows.specs.Rows.{Pushed}
 
 -- ---- words
 
-put-same : (b : List ℕ) (i v : ℕ) → 2 * i + 1 < length b → v < 65536 → wordAt (putWord b i v) i ≡ v
+pub put-same : (b : List ℕ) (i v : ℕ) → 2 * i + 1 < length b → v < 65536 → wordAt (putWord b i v) i ≡ v
 put-same b i v h small =
     let low : getD (putWord b i v) (2 * i) 0 ≡ v % 256 = getD-set-other (set b (2 * i) (v % 256)) (2 * i + 1) (2 * i) (v / 256 % 256) 0 (λ e. omega arith) ∙ getD-set-same b (2 * i) (v % 256) 0 (omega arith) in
     let high : getD (putWord b i v) (2 * i + 1) 0 ≡ v / 256 % 256 = getD-set-same (set b (2 * i) (v % 256)) (2 * i + 1) (v / 256 % 256) 0 (omega (arith, length-set b (2 * i) (v % 256))) in
     omega arith
 
-put-other : (b : List ℕ) (i j v : ℕ) → (i ≡ j → ⊥) → wordAt (putWord b i v) j ≡ wordAt b j
+pub put-other : (b : List ℕ) (i j v : ℕ) → (i ≡ j → ⊥) → wordAt (putWord b i v) j ≡ wordAt b j
 put-other b i j v h =
     let at : (k : ℕ) → (k ≡ 2 * i → ⊥) → (k ≡ 2 * i + 1 → ⊥) → getD (putWord b i v) k 0 ≡ getD b k 0 = λ k x y. getD-set-other (set b (2 * i) (v % 256)) (2 * i + 1) k (v / 256 % 256) 0 y ∙ getD-set-other b (2 * i) k (v % 256) 0 x in
     let low = at (2 * j) (λ e. h (omega arith)) (λ e. omega arith) in
     let high = at (2 * j + 1) (λ e. omega arith) (λ e. h (omega arith)) in
     omega arith
 
-put-length : (b : List ℕ) (i v : ℕ) → length (putWord b i v) ≡ length b
+pub put-length : (b : List ℕ) (i v : ℕ) → length (putWord b i v) ≡ length b
 put-length b i v = length-set (set b (2 * i) (v % 256)) (2 * i + 1) (v / 256 % 256) ∙ length-set b (2 * i) (v % 256)
 
 -- ---- a row written

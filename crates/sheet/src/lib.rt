@@ -238,6 +238,30 @@ pub fn procedure_row(s: &[u8], l: Layout, c: usize) -> Procedure
 
 // ---- rows without a layout to carry, by the header's words
 
+pub fn types_of(s: &[u8]) -> usize
+    requires { ⌜ Whole (now s) ⌝ }
+    ensures is { λ r. ⌜ r ≡ scriptOf (now (s .entry)) .types ⌝ }
+    ensures small { λ r. ⌜ r < 65536 ⌝ }
+{
+    word_in(s, 1)
+}
+
+pub fn name_at(s: &[u8], x: usize) -> usize
+    requires { ⌜ Whole (now s) ⌝ }
+    ensures { λ r. ⌜ r ≡ scriptOf (now (s .entry)) .nameRow x ⌝ }
+{
+    name_row(s, lay_out(s), x)
+}
+
+pub fn type_at(s: &[u8], r: usize) -> Row
+    requires { ⌜ Whole (now s) ⌝ }
+    ensures { λ c. ⌜ cellsOf c ≡ scriptOf (now (s .entry)) .typeRow r ⌝ }
+{
+    let names = word_in(s, 0);
+    let types = word_in(s, 1);
+    row_of_three(s, 13 + names, types, r)
+}
+
 pub fn query_at(s: &[u8], r: usize) -> Row
     requires { ⌜ Whole (now s) ⌝ }
     ensures is { λ c. ⌜ cellsOf c ≡ scriptOf (now (s .entry)) .queryRow r ⌝ }

@@ -4,7 +4,8 @@ use mathlib.Core.Path.{refl, _∙_}
 use Rattle.meaning.specs.Run.{query-of, branch}
 use Rattle.walk.specs.Meets.{ran-done, ran-not, met-stop, stop-then, roomy-after}
 use Rattle.rows.specs.Asks.{readable, sees-nothing, sees-many, sees-text, sees-bool, sees-node}
-use Rattle.ask.specs.Ask.{pool, asks-part, asks-after, fits-if}
+use Rattle.walk.specs.Fits.{fits-if}
+use Rattle.ask.specs.Ask.{pool, asks-part, asks-after}
 use Rattle.ask.proofs.Laws.{choose-yes, choose-no, choose-stuck}
 use borrow.Author.Needs.{needs}
 use Prim.Native.Nat.{ℕ}

@@ -4,7 +4,8 @@ use mathlib.Core.Path.{_∙_}
 use Rattle.meaning.specs.Run.{query-of}
 use Rattle.walk.specs.Meets.{ran-done, ran-not, met-stop, stop-then, roomy-after}
 use Rattle.rows.specs.Rows.{fronted}
-use Rattle.ask.specs.Ask.{pool, asks-part, asks-after, fits-join}
+use Rattle.walk.specs.Fits.{fits-join}
+use Rattle.ask.specs.Ask.{pool, asks-part, asks-after}
 use Rattle.ask.proofs.Laws.{both-stop, both-met}
 use borrow.Author.Needs.{needs}
 use Prim.Native.Nat.{ℕ}

@@ -3,7 +3,8 @@ use native.Mathlib.Omega.{arith}
 use mathlib.Core.Path.{_∙_}
 use Rattle.meaning.specs.Run.{query-of}
 use Rattle.walk.specs.Meets.{ran-done, ran-not, met-stop, stop-then}
-use Rattle.ask.specs.Ask.{asks-part, asks-after, asks-with, a-place, fits-let, fits-more}
+use Rattle.walk.specs.Fits.{a-place, fits-let, fits-more}
+use Rattle.ask.specs.Ask.{asks-part, asks-after, asks-with}
 use Rattle.ask.proofs.Laws.{let-met}
 use borrow.Author.Needs.{needs}
 use Prim.Native.Nat.{ℕ}

@@ -3,7 +3,8 @@ use native.Mathlib.Omega.{arith}
 use mathlib.Core.Path.{_∙_}
 use Rattle.meaning.specs.Run.{query-of}
 use Rattle.walk.specs.Meets.{ran-done, ran-not, met-stop, met-then, stop-then, roomy-after}
-use Rattle.ask.specs.Ask.{pool, asks-part, fits-pick}
+use Rattle.walk.specs.Fits.{fits-pick}
+use Rattle.ask.specs.Ask.{pool, asks-part}
 use borrow.Author.Needs.{needs}
 use Prim.Native.Nat.{ℕ}
 use Rattle.ask.proofs.pick.Reads as pick-reads

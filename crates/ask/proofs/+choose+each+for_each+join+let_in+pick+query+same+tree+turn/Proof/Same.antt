@@ -5,7 +5,8 @@ use Rattle.meaning.specs.Forest.{Forest}
 use Rattle.meaning.specs.Walk.{of-query}
 use Rattle.meaning.specs.Run.{query-of, same-texts, seen}
 use Rattle.walk.specs.Meets.{ran-done, ran-not, met-stop, stop-then, roomy-after}
-use Rattle.ask.specs.Ask.{asks-part, asks-after, fits-same}
+use Rattle.walk.specs.Fits.{fits-same}
+use Rattle.ask.specs.Ask.{asks-part, asks-after}
 use Rattle.ask.proofs.Laws.{both-stop, both-met}
 use borrow.Author.Needs.{needs}
 use Prim.Native.Nat.{ℕ}

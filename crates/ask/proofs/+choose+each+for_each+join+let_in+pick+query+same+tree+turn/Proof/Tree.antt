@@ -4,7 +4,8 @@ use mathlib.Core.Path.{_∙_}
 use Rattle.meaning.specs.Run.{query-of}
 use Rattle.walk.specs.Meets.{ran-done, ran-not, met-stop, met-then, stop-then, roomy-after}
 use Rattle.rows.specs.Asks.{node-asks}
-use Rattle.ask.specs.Ask.{pool, asks-part, fits-tree}
+use Rattle.walk.specs.Fits.{fits-tree}
+use Rattle.ask.specs.Ask.{pool, asks-part}
 use borrow.Author.Needs.{needs}
 use Prim.Native.Nat.{ℕ}
 use Rattle.ask.proofs.tree.Reads as tree-reads

@@ -5,7 +5,7 @@ use Rattle.sheet.specs.Laid.{cellsOf}
 use Rattle.walk.specs.Purse.{paid-left, paid-fuel}
 use Rattle.walk.specs.Meets.{ran-done, ran-not, ran-spare, stop-tick}
 use Rattle.walk.specs.Loop.{turns-stop}
-use Rattle.ask.specs.Ask.{a-place, fits-turn}
+use Rattle.walk.specs.Fits.{a-place, fits-turn}
 use Rattle.ask.proofs.Laws.{turn-asks, turn-stop, turn-keep, turn-more}
 use borrow.Author.Needs.{needs}
 use Prim.Native.Nat.{ℕ}

@@ -3,7 +3,7 @@ use native.Mathlib.Omega.{arith}
 use mathlib.Core.Path.{_∙_}
 use Rattle.meaning.specs.Run.{statement-of}
 use Rattle.walk.specs.Meets.{ran-done, ran-not, met-stop, stop-then}
-use Rattle.ask.specs.Ask.{a-place}
+use Rattle.walk.specs.Fits.{a-place}
 use Rattle.edit.specs.Edit.{edits-query, edits-after, edits-with, fits-let, fits-more}
 use Rattle.edit.proofs.Laws.{let-met}
 use borrow.Author.Needs.{needs}

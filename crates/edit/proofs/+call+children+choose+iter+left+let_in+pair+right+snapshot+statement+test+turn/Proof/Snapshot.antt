@@ -1,6 +1,6 @@
 -- The focus as a forest variable.
 use native.Mathlib.Omega.{arith}
-use Rattle.ask.specs.Ask.{a-place}
+use Rattle.walk.specs.Fits.{a-place}
 use Rattle.edit.specs.Edit.{edits-with, fits-snapshot, fits-more}
 use Rattle.edit.proofs.Laws.{snapshot-met}
 use borrow.Author.Needs.{needs}

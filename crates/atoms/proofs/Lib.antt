@@ -1,0 +1,1 @@
+-- What is shown of types worked through part by part.

@@ -1,0 +1,3 @@
+-- How a check types queries.
+pub mod Infer
+pub mod Questions

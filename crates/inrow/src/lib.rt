@@ -1,0 +1,206 @@
+// Whether a type written out lies within a declared type or a content of the sheet, exact: the pairs of places that one tree can reach are walked, a found place and a wanted one, until none is left or one has no rival.
+use sheet::Layout;
+ghost use mathlib.Core.Path.{_≡_};
+ghost use mathlib.Core.Bool.{true};
+ghost use mathlib.Core.List.{List};
+ghost use Prim.Native.Nat.{ℕ};
+ghost use Rattle.meaning.specs.Tests.{inTable};
+ghost use Rattle.meaning.specs.Sheet.{scriptOf};
+ghost use Rattle.meaning.specs.Reply.{done, Loads};
+ghost use Rattle.sheet.specs.Laid.{Laid};
+ghost use Rattle.roots.specs.Roots.{isRoot};
+ghost use Rattle.points.specs.Points.{OwnPoints};
+ghost use Rattle.pairs.specs.Queue.{Queue};
+ghost use Rattle.reach.specs.Reach.{Tabled, Like, Walked};
+ghost use Rattle.inrow.specs.Matched.{Standing, Setting};
+ghost use Rattle.inrow.specs.Lies.{Lies};
+ghost use Rattle.inrow.specs.Steps.{zeros, OwnWalked};
+
+// Walks the pending pairs of the sheet's places.
+fn sheet_walk(
+    s: &[u8],
+    l: Layout,
+    first: &[u64; 4617],
+    behind: &[u64; 4617],
+    kin: &[u16; 576],
+    same: &[u64; 4617],
+    pending: &mut [u64; 4617],
+    done: &mut [u64; 4617],
+    fresh: &mut [u64; 4617],
+    met: &[u64; 4617],
+) -> bool
+    requires { ⌜ Laid (now s) l ⌝ }
+    requires { ⌜ Tabled (scriptOf (now s) .typeRow) (now first) (now behind) (now kin) (now s) (now first) (now behind) (now same) ⌝ }
+    requires { ⌜ Queue (now pending) (now done) ⌝ }
+    requires { ⌜ Queue (now fresh) (now met) ⌝ }
+    requires { ⌜ Like (scriptOf (now s) .typeRow) (now first) (now behind) (now kin) (now s) (now first) (now behind) (now same) (now pending) ⌝ }
+    ensures { λ r. ⌜ Walked (scriptOf (now (s .entry)) .typeRow) (now (first .entry)) (now (behind .entry)) (now (kin .entry)) (now (s .entry)) (now (first .entry)) (now (behind .entry)) (now (same .entry)) (now (pending .entry)) (now (pending .exit)) (now (done .entry)) (now (done .exit)) (now (fresh .entry)) (now (fresh .exit)) (now (met .entry)) r ⌝ }
+{
+    reach::walk(
+        s,
+        l,
+        s,
+        l.types_at,
+        l.types,
+        first,
+        behind,
+        kin,
+        first,
+        behind,
+        same,
+        pending,
+        done,
+        fresh,
+        met,
+    )
+}
+
+// The own places against those of row `w`, from empty tables.
+fn own_walk(
+    s: &[u8],
+    l: Layout,
+    own: &[u8],
+    own_first: &[u64; 4617],
+    own_behind: &[u64; 4617],
+    own_kin: &[u16; 576],
+    first: &[u64; 4617],
+    behind: &[u64; 4617],
+    same: &[u64; 4617],
+    w: usize,
+    pending: &mut [u64; 4617],
+    done: &mut [u64; 4617],
+    fresh: &mut [u64; 4617],
+    met: &[u64; 4617],
+) -> bool
+    requires { ⌜ Laid (now s) l × ((now pending ≡ zeros) × (now done ≡ zeros) × (now fresh ≡ zeros) × (now met ≡ zeros)) ⌝ }
+    requires { ⌜ ((kin : List ℕ) × ((class : List ℕ) × Setting (now s) (now own) (now first) (now behind) (now «own_first») (now «own_behind») class (now same) (now «own_kin») kin)) ⌝ }
+    requires { ⌜ (inTable (scriptOf (now s) .types) w ≡ true) × (isRoot (now s) w ≡ true) ⌝ }
+    ensures { λ r. ⌜ OwnWalked (now (s .entry)) (now (own .entry)) (now (first .entry)) (now (behind .entry)) (now («own_first» .entry)) (now («own_behind» .entry)) (now (same .entry)) (now («own_kin» .entry)) w (now (pending .exit)) (now (done .exit)) (now (fresh .exit)) r ⌝ }
+{
+    if !pairs::meet(own_first, 512, first, w, own_kin, same, pending, done) {
+        return false;
+    }
+    reach::walk(
+        s,
+        l,
+        own,
+        0,
+        512,
+        own_first,
+        own_behind,
+        own_kin,
+        first,
+        behind,
+        same,
+        pending,
+        done,
+        fresh,
+        met,
+    )
+}
+
+// The own places against those of row `w`; then, as names lead to them, contents of the sheet against contents, each pair once.
+fn walks(
+    s: &[u8],
+    l: Layout,
+    own: &[u8],
+    own_first: &[u64; 4617],
+    own_behind: &[u64; 4617],
+    own_kin: &[u16; 576],
+    first: &[u64; 4617],
+    behind: &[u64; 4617],
+    kin: &[u16; 576],
+    same: &[u64; 4617],
+    w: usize,
+) -> bool
+    requires { ⌜ Loads (now s) done × Laid (now s) l ⌝ }
+    requires { ⌜ ((class : List ℕ) × Setting (now s) (now own) (now first) (now behind) (now «own_first») (now «own_behind») class (now same) (now «own_kin») (now kin)) ⌝ }
+    requires { ⌜ (inTable (scriptOf (now s) .types) w ≡ true) × (isRoot (now s) w ≡ true) ⌝ }
+    ensures { λ r. ⌜ Lies (now (s .entry)) (now (own .entry)) w r ⌝ }
+{
+    let mut pending = [0u64; 4617];
+    let mut own_done = [0u64; 4617];
+    let mut done = [0u64; 4617];
+    let mut fresh = [0u64; 4617];
+    let mut met = [0u64; 4617];
+    if !own_walk(
+        s,
+        l,
+        own,
+        own_first,
+        own_behind,
+        own_kin,
+        first,
+        behind,
+        same,
+        w,
+        &mut pending,
+        &mut own_done,
+        &mut fresh,
+        &met,
+    ) {
+        return false;
+    }
+    let mut q = bits::lowest_both(&fresh, 0, &fresh, 0, 1);
+    while q < 576 {
+        let r = pairs::take(q, &mut fresh, &mut met);
+        if !pairs::meet(first, q, first, r, kin, same, &mut pending, &done) {
+            return false;
+        }
+        if !sheet_walk(
+            s,
+            l,
+            first,
+            behind,
+            kin,
+            same,
+            &mut pending,
+            &mut done,
+            &mut fresh,
+            &met,
+        ) {
+            return false;
+        }
+        q = bits::lowest_both(&fresh, 0, &fresh, 0, 1);
+    }
+    true
+}
+
+// Whether the type at row 512 of `own`, whose points are given, lies within the sheet's type at row `w`.
+pub fn in_row(
+    s: &[u8],
+    own: &[u8],
+    own_first: &[u64; 4617],
+    own_behind: &[u64; 4617],
+    w: usize,
+) -> bool
+    requires { ⌜ Loads (now s) done ⌝ }
+    requires { ⌜ Standing (now s) (now own) × OwnPoints (now own) (now «own_first») (now «own_behind») ⌝ }
+    requires { ⌜ (inTable (scriptOf (now s) .types) w ≡ true) × (isRoot (now s) w ≡ true) ⌝ }
+    ensures { λ r. ⌜ Lies (now (s .entry)) (now (own .entry)) w r ⌝ }
+{
+    let l = sheet::lay_out(s);
+    let mut first = [0u64; 4617];
+    let mut behind = [0u64; 4617];
+    let mut class = [0u16; 1026];
+    let mut same = [0u64; 4617];
+    let mut own_kin = [0u16; 576];
+    let mut kin = [0u16; 576];
+    points::of_sheet(s, l, &mut first, &mut behind);
+    heads::classes(s, l, &mut class, &mut same);
+    kin::kins(s, l, own, 0, 512, &class, &mut own_kin);
+    kin::kins(s, l, s, l.types_at, l.types, &class, &mut kin);
+    walks(
+        s,
+        l,
+        own,
+        own_first,
+        own_behind,
+        &own_kin,
+        &first,
+        &behind,
+        &kin,
+        &same,
+        w,
+    )
+}

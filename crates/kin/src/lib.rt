@@ -1,0 +1,59 @@
+// The kin of a place: the sheet's places that have its head, for the places of the sheet and of a type written out.
+use sheet::Layout;
+use sheet::Row;
+ghost use mathlib.Core.Path.{_≡_};
+ghost use Prim.Native.Nat.{_≤_};
+ghost use lib.ListN.{replicate};
+ghost use Rattle.meaning.specs.Sheet.{row3};
+ghost use Rattle.sheet.specs.Laid.{Laid, cellsOf};
+ghost use Rattle.sheet.specs.Whole.{Lies};
+ghost use Rattle.kin.specs.Kin.{ownNo, kinNo, Kins};
+
+// The head by number, 1026 for a label that no sheet has: a written row's label may be any word.
+fn number(c: Row) -> usize
+    ensures { λ h. ⌜ h ≡ ownNo (cellsOf c) ⌝ }
+{
+    let kind = c.kind;
+    let p = c.p;
+    if kind != 4 {
+        return heads::head_of(c);
+    }
+    if 1023 < p {
+        return 1026;
+    }
+    p
+}
+
+// The set of `same` that has the sheet's places with the head of row `c`: the lowest of them, 0 where there is none.
+fn kin_of(s: &[u8], l: Layout, c: Row, class: &[u16; 1026]) -> u16
+    requires { ⌜ Laid (now s) l ⌝ }
+    ensures { λ r. ⌜ r ≡ kinNo (now (s .entry)) (now (class .entry)) (cellsOf c) ⌝ }
+{
+    let h = number(heads::stands_for(s, l, c));
+    if h < 1026 {
+        return class[h];
+    }
+    0
+}
+
+// That of each place of a table.
+pub fn kins(
+    s: &[u8],
+    l: Layout,
+    x: &[u8],
+    at: usize,
+    n: usize,
+    class: &[u16; 1026],
+    kin: &mut [u16; 576],
+)
+    requires { ⌜ Laid (now s) l ⌝ }
+    requires { ⌜ Lies (now x) at 3 n × (n ≤ 512) ⌝ }
+    requires { ⌜ now kin ≡ replicate 576 0 ⌝ }
+    ensures { λ _. ⌜ Kins (row3 (now (x .entry)) at n) n (now (s .entry)) (now (class .entry)) (now (kin .exit)) ⌝ }
+{
+    let mut i = 0;
+    while i < n {
+        kin[i + 1] = kin_of(s, l, sheet::row_of_three(x, at, n, i + 1), class);
+        i += 1;
+    }
+}

@@ -1,0 +1,2 @@
+-- The pairs of places that one tree can reach.
+pub mod Reach
