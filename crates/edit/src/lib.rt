@@ -4,6 +4,7 @@ use rows::Seen;
 use rows::front;
 use rows::keep;
 use rows::make;
+use sheet::Row;
 use walk::Answer;
 use walk::Purse;
 use walk::Scope;
@@ -138,8 +139,8 @@ pub fn statement(
                     used,
                     purse: rest,
                 },
-                2 => pair(s, rows, scope, used, c.p, c.q, focus, below, rest),
-                3 => choose(s, rows, scope, used, at, c.p, c.q, c.r, focus, below, rest),
+                2 => pair(s, rows, scope, used, c, focus, below, rest),
+                3 => choose(s, rows, scope, used, at, c, focus, below, rest),
                 4 => insert(s, rows, scope, used, at, c.p, focus, below, rest),
                 5 => Answer::Done {
                     root: 0,
@@ -147,14 +148,14 @@ pub fn statement(
                     purse: rest,
                 },
                 6 => rename(rows, used, at, c.p, focus, rest),
-                7 => let_in(s, rows, scope, used, c.p, c.q, focus, below, rest),
+                7 => let_in(s, rows, scope, used, c, focus, below, rest),
                 8 => snapshot(s, rows, scope, used, c.p, focus, below, rest),
-                9 => test(s, rows, scope, used, at, c.p, c.q, c.r, focus, below, rest),
+                9 => test(s, rows, scope, used, at, c, focus, below, rest),
                 10 => children(s, rows, scope, used, at, c.p, focus, below, rest),
                 11 => left(s, rows, scope, used, c.p, focus, below, rest),
                 12 => right(s, rows, scope, used, c.p, focus, below, rest),
                 13 => iter(s, rows, scope, used, c.p, focus, below, rest),
-                14 => call(s, rows, scope, used, c.p, c.q, c.r, focus, below, rest),
+                14 => call(s, rows, scope, used, c, focus, below, rest),
                 0 | 15..=65535 => Answer::Not(Stop::Stuck(at, 2, rest)),
             }
         }
@@ -167,22 +168,21 @@ fn pair(
     rows: &mut [u8],
     scope: Scope,
     used: usize,
-    p: usize,
-    q: usize,
+    c: Row,
     focus: usize,
     depth: usize,
     purse: Purse,
 ) -> Answer
-    requires { ⌜ Edits (now s) (now rows) scope used focus (purse .left) (fits-row (now s) depth scope (Statement.then p q)) ⌝ }
-    ensures { λ a. ⌜ Meets (row-went (now (s .entry)) (now (rows .entry)) scope depth 0 (Statement.then p q) focus) (pool (now (s .entry))) (purse .left) used (now (rows .entry)) (now (rows .exit)) a ⌝ }
+    requires { ⌜ Edits (now s) (now rows) scope used focus (purse .left) (fits-row (now s) depth scope (Statement.then (c .p) (c .q))) ⌝ }
+    ensures { λ a. ⌜ Meets (row-went (now (s .entry)) (now (rows .entry)) scope depth 0 (Statement.then (c .p) (c .q)) focus) (pool (now (s .entry))) (purse .left) used (now (rows .entry)) (now (rows .exit)) a ⌝ }
 {
-    match statement(s, rows, scope, used, p, focus, depth, purse) {
+    match statement(s, rows, scope, used, c.p, focus, depth, purse) {
         Answer::Not(why) => Answer::Not(why),
         Answer::Done {
             root,
             used: n,
             purse: rest,
-        } => statement(s, rows, scope, n, q, root, depth, rest),
+        } => statement(s, rows, scope, n, c.q, root, depth, rest),
     }
 }
 
@@ -193,17 +193,15 @@ fn choose(
     scope: Scope,
     used: usize,
     at: usize,
-    p: usize,
-    q: usize,
-    r: usize,
+    c: Row,
     focus: usize,
     depth: usize,
     purse: Purse,
 ) -> Answer
-    requires { ⌜ Edits (now s) (now rows) scope used focus (purse .left) (fits-row (now s) depth scope (Statement.if p q r)) ⌝ }
-    ensures { λ a. ⌜ Meets (row-went (now (s .entry)) (now (rows .entry)) scope depth at (Statement.if p q r) focus) (pool (now (s .entry))) (purse .left) used (now (rows .entry)) (now (rows .exit)) a ⌝ }
+    requires { ⌜ Edits (now s) (now rows) scope used focus (purse .left) (fits-row (now s) depth scope (Statement.if (c .p) (c .q) (c .r))) ⌝ }
+    ensures { λ a. ⌜ Meets (row-went (now (s .entry)) (now (rows .entry)) scope depth at (Statement.if (c .p) (c .q) (c .r)) focus) (pool (now (s .entry))) (purse .left) used (now (rows .entry)) (now (rows .exit)) a ⌝ }
 {
-    match query(s, rows, scope, used, p, depth, purse) {
+    match query(s, rows, scope, used, c.p, depth, purse) {
         Answer::Not(why) => Answer::Not(why),
         Answer::Done {
             root,
@@ -212,9 +210,9 @@ fn choose(
         } => match rows::look(rows, root) {
             Seen::Bool(b) => {
                 if b {
-                    statement(s, rows, scope, n, q, focus, depth, rest)
+                    statement(s, rows, scope, n, c.q, focus, depth, rest)
                 } else {
-                    statement(s, rows, scope, n, r, focus, depth, rest)
+                    statement(s, rows, scope, n, c.r, focus, depth, rest)
                 }
             }
             Seen::Nothing => Answer::Not(Stop::Stuck(at, 2, rest)),
@@ -231,22 +229,21 @@ fn let_in(
     rows: &mut [u8],
     scope: Scope,
     used: usize,
-    p: usize,
-    q: usize,
+    c: Row,
     focus: usize,
     depth: usize,
     purse: Purse,
 ) -> Answer
-    requires { ⌜ Edits (now s) (now rows) scope used focus (purse .left) (fits-row (now s) depth scope (Statement.letin p q)) ⌝ }
-    ensures { λ a. ⌜ Meets (row-went (now (s .entry)) (now (rows .entry)) scope depth 0 (Statement.letin p q) focus) (pool (now (s .entry))) (purse .left) used (now (rows .entry)) (now (rows .exit)) a ⌝ }
+    requires { ⌜ Edits (now s) (now rows) scope used focus (purse .left) (fits-row (now s) depth scope (Statement.letin (c .p) (c .q))) ⌝ }
+    ensures { λ a. ⌜ Meets (row-went (now (s .entry)) (now (rows .entry)) scope depth 0 (Statement.letin (c .p) (c .q)) focus) (pool (now (s .entry))) (purse .left) used (now (rows .entry)) (now (rows .exit)) a ⌝ }
 {
-    match query(s, rows, scope, used, p, depth, purse) {
+    match query(s, rows, scope, used, c.p, depth, purse) {
         Answer::Not(why) => Answer::Not(why),
         Answer::Done {
             root,
             used: n,
             purse: rest,
-        } => statement(s, rows, scope.with(1, root), n, q, focus, depth, rest),
+        } => statement(s, rows, scope.with(1, root), n, c.q, focus, depth, rest),
     }
 }
 
@@ -274,19 +271,17 @@ fn test(
     scope: Scope,
     used: usize,
     at: usize,
-    p: usize,
-    q: usize,
-    r: usize,
+    c: Row,
     tree: usize,
     depth: usize,
     purse: Purse,
 ) -> Answer
-    requires { ⌜ Edits (now s) (now rows) scope used tree (purse .left) (fits-row (now s) depth scope (Statement.test (testForm p q) r)) ⌝ }
-    ensures { λ a. ⌜ Meets (row-went (now (s .entry)) (now (rows .entry)) scope depth at (Statement.test (testForm p q) r) tree) (pool (now (s .entry))) (purse .left) used (now (rows .entry)) (now (rows .exit)) a ⌝ }
+    requires { ⌜ Edits (now s) (now rows) scope used tree (purse .left) (fits-row (now s) depth scope (Statement.test (testForm (c .p) (c .q)) (c .r))) ⌝ }
+    ensures { λ a. ⌜ Meets (row-went (now (s .entry)) (now (rows .entry)) scope depth at (Statement.test (testForm (c .p) (c .q)) (c .r)) tree) (pool (now (s .entry))) (purse .left) used (now (rows .entry)) (now (rows .exit)) a ⌝ }
 {
-    match judge(rows, p, q, tree) {
+    match judge(rows, c.p, c.q, tree) {
         Fate::Misfit => Answer::Not(Stop::Stuck(at, 2, purse)),
-        Fate::Matched => statement(s, rows, scope, used, r, tree, depth, purse),
+        Fate::Matched => statement(s, rows, scope, used, c.r, tree, depth, purse),
         Fate::Passed => Answer::Done {
             root: tree,
             used,
@@ -454,22 +449,20 @@ fn call(
     rows: &mut [u8],
     scope: Scope,
     used: usize,
-    c: usize,
-    q: usize,
-    r: usize,
+    c: Row,
     focus: usize,
     depth: usize,
     purse: Purse,
 ) -> Answer
-    requires { ⌜ (Edits (now s) (now rows) scope used focus (purse .left) (fits-row (now s) depth scope (Statement.call c (present q r)))) × (fits-called (now s) depth c q r) ⌝ }
-    ensures { λ a. ⌜ Meets (row-went (now (s .entry)) (now (rows .entry)) scope depth 0 (Statement.call c (present q r)) focus) (pool (now (s .entry))) (purse .left) used (now (rows .entry)) (now (rows .exit)) a ⌝ }
+    requires { ⌜ (Edits (now s) (now rows) scope used focus (purse .left) (fits-row (now s) depth scope (Statement.call (c .p) (present (c .q) (c .r))))) × (fits-called (now s) depth (c .p) (c .q) (c .r)) ⌝ }
+    ensures { λ a. ⌜ Meets (row-went (now (s .entry)) (now (rows .entry)) scope depth 0 (Statement.call (c .p) (present (c .q) (c .r))) focus) (pool (now (s .entry))) (purse .left) used (now (rows .entry)) (now (rows .exit)) a ⌝ }
 {
-    let body = sheet::procedure_at(s, c).body;
+    let body = sheet::procedure_at(s, c.p).body;
     let none = Scope::new();
-    if q == 0 {
+    if c.q == 0 {
         return statement(s, rows, none, used, body, focus, depth, purse);
     }
-    match query(s, rows, scope, used, q, depth, purse) {
+    match query(s, rows, scope, used, c.q, depth, purse) {
         Answer::Not(why) => Answer::Not(why),
         Answer::Done {
             root: x,
@@ -477,10 +470,10 @@ fn call(
             purse: paid,
         } => {
             let one = none.with(1, x);
-            if r == 0 {
+            if c.r == 0 {
                 return statement(s, rows, one, n, body, focus, depth, paid);
             }
-            match query(s, rows, scope, n, r, depth, paid) {
+            match query(s, rows, scope, n, c.r, depth, paid) {
                 Answer::Not(why) => Answer::Not(why),
                 Answer::Done {
                     root: y,

@@ -56,13 +56,13 @@ use Rattle.walk.proofs.Scope.new.Reads as new-called
 use Rattle.walk.proofs.Scope.with.Reads as with-called
 
 abbrev pub μ-call : Measures 2 call-kinds.ps ℕ
-μ-call κs a = 4 * (a .1 .1 .1 .1 .1 .1 .1 .1 .0) + 1
+μ-call κs a = 4 * (a .1 .1 .1 .1 .1 .1 .0) + 1
 
 abbrev pub μ-children : Measures 2 children-kinds.ps ℕ
 μ-children κs a = 4 * (a .1 .1 .1 .1 .1 .1 .1 .0) + 1
 
 abbrev pub μ-choose : Measures 2 choose-kinds.ps ℕ
-μ-choose κs a = 4 * (a .1 .1 .1 .1 .1 .1 .1 .1 .1 .0) + 1
+μ-choose κs a = 4 * (a .1 .1 .1 .1 .1 .1 .1 .0) + 1
 
 abbrev pub μ-iter : Measures 2 iter-kinds.ps ℕ
 μ-iter κs a = 4 * (a .1 .1 .1 .1 .1 .1 .0) + 2
@@ -71,10 +71,10 @@ abbrev pub μ-left : Measures 2 left-kinds.ps ℕ
 μ-left κs a = 4 * (a .1 .1 .1 .1 .1 .1 .0) + 1
 
 abbrev pub μ-let-in : Measures 2 let-in-kinds.ps ℕ
-μ-let-in κs a = 4 * (a .1 .1 .1 .1 .1 .1 .1 .0) + 1
+μ-let-in κs a = 4 * (a .1 .1 .1 .1 .1 .1 .0) + 1
 
 abbrev pub μ-pair : Measures 2 pair-kinds.ps ℕ
-μ-pair κs a = 4 * (a .1 .1 .1 .1 .1 .1 .1 .0) + 1
+μ-pair κs a = 4 * (a .1 .1 .1 .1 .1 .1 .0) + 1
 
 abbrev pub μ-right : Measures 2 right-kinds.ps ℕ
 μ-right κs a = 4 * (a .1 .1 .1 .1 .1 .1 .0) + 1
@@ -86,7 +86,7 @@ abbrev pub μ-statement : Measures 2 statement-kinds.ps ℕ
 μ-statement κs a = 4 * (a .1 .1 .1 .1 .1 .1 .0)
 
 abbrev pub μ-test : Measures 2 test-kinds.ps ℕ
-μ-test κs a = 4 * (a .1 .1 .1 .1 .1 .1 .1 .1 .1 .0) + 1
+μ-test κs a = 4 * (a .1 .1 .1 .1 .1 .1 .1 .0) + 1
 
 abbrev pub μ-turn : Measures 2 turn-kinds.ps ℕ
 μ-turn κs a = 4 * (a .1 .1 .1 .1 .1 .1 .1 .0) + 1

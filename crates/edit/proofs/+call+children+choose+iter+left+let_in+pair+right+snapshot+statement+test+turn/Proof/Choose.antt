@@ -14,7 +14,7 @@ use Rattle.edit.proofs.+call+children+choose+iter+left+let_in+pair+righ
 use Rattle.edit.proofs.+call+children+choose+iter+left+let_in+pair+right+snapshot+statement+test+turn.Proof.Base.{choose-claims, choose-at}
 
 query-requires : (t : ℕ) → lts.Need-query-requires (choose-claims t) (choose-at t) choose-reads.Post
-query-requires t c κs = let a = c .before .before .before .args in let h = c .before .before .before .pre .1 in let r = h .asks .ready in edits-query h (fits-if (a .s .now) (a .depth) (a .scope) (a .p) (a .q) (a .r) (h .asks .scope) .0)
+query-requires t c κs = let a = c .before .before .before .args in let h = c .before .before .before .pre .1 in let r = h .asks .ready in edits-query h (fits-if (a .s .now) (a .depth) (a .scope) (a .c .p) (a .c .q) (a .c .r) (h .asks .scope) .0)
 
 enum-known-why : (t : ℕ) → lts.Need-enum-known-why (choose-claims t) (choose-at t) choose-reads.Post
 enum-known-why t c = search needs
@@ -29,10 +29,10 @@ enum-known-b : (t : ℕ) → lts.Need-enum-known-b (choose-claims t) (choose-at 
 enum-known-b t c = search needs
 
 statement-requires : (t : ℕ) → lts.Need-statement-requires (choose-claims t) (choose-at t) choose-reads.Post
-statement-requires t c κs = let the-pre = c .before .before .before .before .before .before .before .before .before .before .before .before .before .before .before .before .pre in let the-query = c .before .before .before .before .before .before .before .before .before .before .before .before .query in let a = c .before .before .before .before .before .before .before .before .before .before .before .before .before .before .before .before .args in let h = the-pre .1 in let r = h .asks .ready in let f = (ran-done (c .before .before .before .before .before .before .before .before .root .given .1) (the-query .ensures)) in (omega (arith, the-pre .0), edits-after h (a .focus) (the-query .kept .1 .0) f (omega (arith, r .focus, f .grown)) (fits-if (a .s .now) (a .depth) (a .scope) (a .p) (a .q) (a .r) (h .asks .scope) .1))
+statement-requires t c κs = let the-pre = c .before .before .before .before .before .before .before .before .before .before .before .before .before .before .before .before .pre in let the-query = c .before .before .before .before .before .before .before .before .before .before .before .before .query in let a = c .before .before .before .before .before .before .before .before .before .before .before .before .before .before .before .before .args in let h = the-pre .1 in let r = h .asks .ready in let f = (ran-done (c .before .before .before .before .before .before .before .before .root .given .1) (the-query .ensures)) in (omega (arith, the-pre .0), edits-after h (a .focus) (the-query .kept .1 .0) f (omega (arith, r .focus, f .grown)) (fits-if (a .s .now) (a .depth) (a .scope) (a .c .p) (a .c .q) (a .c .r) (h .asks .scope) .1))
 
 statement-requires-2 : (t : ℕ) → lts.Need-statement-requires-2 (choose-claims t) (choose-at t) choose-reads.Post
-statement-requires-2 t c κs = let the-pre = c .before .before .before .before .before .before .before .before .before .before .before .before .before .before .before .before .pre in let the-query = c .before .before .before .before .before .before .before .before .before .before .before .before .query in let a = c .before .before .before .before .before .before .before .before .before .before .before .before .before .before .before .before .args in let h = the-pre .1 in let r = h .asks .ready in let f = (ran-done (c .before .before .before .before .before .before .before .before .root .given .1) (the-query .ensures)) in (omega (arith, the-pre .0), edits-after h (a .focus) (the-query .kept .1 .0) f (omega (arith, r .focus, f .grown)) (fits-if (a .s .now) (a .depth) (a .scope) (a .p) (a .q) (a .r) (h .asks .scope) .2))
+statement-requires-2 t c κs = let the-pre = c .before .before .before .before .before .before .before .before .before .before .before .before .before .before .before .before .pre in let the-query = c .before .before .before .before .before .before .before .before .before .before .before .before .query in let a = c .before .before .before .before .before .before .before .before .before .before .before .before .before .before .before .before .args in let h = the-pre .1 in let r = h .asks .ready in let f = (ran-done (c .before .before .before .before .before .before .before .before .root .given .1) (the-query .ensures)) in (omega (arith, the-pre .0), edits-after h (a .focus) (the-query .kept .1 .0) f (omega (arith, r .focus, f .grown)) (fits-if (a .s .now) (a .depth) (a .scope) (a .c .p) (a .c .q) (a .c .r) (h .asks .scope) .2))
 
 enum-told : (t : ℕ) → lts.Need-enum-told (choose-claims t) (choose-at t) choose-reads.Post
 enum-told t c = search needs
@@ -57,41 +57,41 @@ same-length-2 : (t : ℕ) → lts.Need-same-length-2 (choose-claims t) (choose-a
 same-length-2 t c = c .before .before .statement .kept .1 .0 ∙ c .before .before .before .before .before .before .before .before .before .before .before .before .before .before .before .query .kept .1 .0
 
 returns-2 : (t : ℕ) → lts.Need-returns-2 (choose-claims t) (choose-at t) choose-reads.Post
-returns-2 t c = let a = c .before .before .before .before .before .before .before .before .before .before .before .before .before .before .before .before .before .before .before .args in let h = c .before .before .before .before .before .before .before .before .before .before .before .before .before .before .before .before .before .before .before .pre .1 in let r = h .asks .ready in choose-yes (a .s .now) (a .depth) r (a .p) (ran-done (c .before .before .before .before .before .before .before .before .before .before .before .root .given .1) (c .before .before .before .before .before .before .before .before .before .before .before .before .before .before .before .query .ensures)) (a .at) (a .q) (a .r) (sees-bool (c .before .before .before .before .before .before .b .given .1) (c .before .before .before .before .before .before .before .before .look .ensures (pool (a .s .now)))) (c .before .before .before .before .if1 .taken) (c .before .before .statement .ensures .met)
+returns-2 t c = let a = c .before .before .before .before .before .before .before .before .before .before .before .before .before .before .before .before .before .before .before .args in let h = c .before .before .before .before .before .before .before .before .before .before .before .before .before .before .before .before .before .before .before .pre .1 in let r = h .asks .ready in choose-yes (a .s .now) (a .depth) r (a .c .p) (ran-done (c .before .before .before .before .before .before .before .before .before .before .before .root .given .1) (c .before .before .before .before .before .before .before .before .before .before .before .before .before .before .before .query .ensures)) (a .at) (a .c .q) (a .c .r) (sees-bool (c .before .before .before .before .before .before .b .given .1) (c .before .before .before .before .before .before .before .before .look .ensures (pool (a .s .now)))) (c .before .before .before .before .if1 .taken) (c .before .before .statement .ensures .met)
 
 same-length-3 : (t : ℕ) → lts.Need-same-length-3 (choose-claims t) (choose-at t) choose-reads.Post
 same-length-3 t c = c .before .before .statement2 .kept .1 .0 ∙ c .before .before .before .before .before .before .before .before .before .before .before .before .before .before .before .query .kept .1 .0
 
 returns-3 : (t : ℕ) → lts.Need-returns-3 (choose-claims t) (choose-at t) choose-reads.Post
-returns-3 t c = let a = c .before .before .before .before .before .before .before .before .before .before .before .before .before .before .before .before .before .before .before .args in let h = c .before .before .before .before .before .before .before .before .before .before .before .before .before .before .before .before .before .before .before .pre .1 in let r = h .asks .ready in choose-no (a .s .now) (a .depth) r (a .p) (ran-done (c .before .before .before .before .before .before .before .before .before .before .before .root .given .1) (c .before .before .before .before .before .before .before .before .before .before .before .before .before .before .before .query .ensures)) (a .at) (a .q) (a .r) (sees-bool (c .before .before .before .before .before .before .b .given .1) (c .before .before .before .before .before .before .before .before .look .ensures (pool (a .s .now)))) (c .before .before .before .before .if1 .left) (c .before .before .statement2 .ensures .met)
+returns-3 t c = let a = c .before .before .before .before .before .before .before .before .before .before .before .before .before .before .before .before .before .before .before .args in let h = c .before .before .before .before .before .before .before .before .before .before .before .before .before .before .before .before .before .before .before .pre .1 in let r = h .asks .ready in choose-no (a .s .now) (a .depth) r (a .c .p) (ran-done (c .before .before .before .before .before .before .before .before .before .before .before .root .given .1) (c .before .before .before .before .before .before .before .before .before .before .before .before .before .before .before .query .ensures)) (a .at) (a .c .q) (a .c .r) (sees-bool (c .before .before .before .before .before .before .b .given .1) (c .before .before .before .before .before .before .before .before .look .ensures (pool (a .s .now)))) (c .before .before .before .before .if1 .left) (c .before .before .statement2 .ensures .met)
 
 same-length-4 : (t : ℕ) → lts.Need-same-length-4 (choose-claims t) (choose-at t) choose-reads.Post
 same-length-4 t c = c .before .before .before .before .before .before .before .before .before .query .kept .1 .0
 
 returns-4 : (t : ℕ) → lts.Need-returns-4 (choose-claims t) (choose-at t) choose-reads.Post
 unfolding branch
-returns-4 t c = let a = c .before .before .before .before .before .before .before .before .before .before .before .before .before .args in let h = c .before .before .before .before .before .before .before .before .before .before .before .before .before .pre .1 in let r = h .asks .ready in choose-stuck (a .s .now) (a .depth) r (a .p) (ran-done (c .before .before .before .before .before .root .given .1) (c .before .before .before .before .before .before .before .before .before .query .ensures)) (a .at) (a .q) (a .r) (sees-nothing (c .enum-told .given .1) (c .before .before .look .ensures (pool (a .s .now)))) (λ y z. refl) _ refl
+returns-4 t c = let a = c .before .before .before .before .before .before .before .before .before .before .before .before .before .args in let h = c .before .before .before .before .before .before .before .before .before .before .before .before .before .pre .1 in let r = h .asks .ready in choose-stuck (a .s .now) (a .depth) r (a .c .p) (ran-done (c .before .before .before .before .before .root .given .1) (c .before .before .before .before .before .before .before .before .before .query .ensures)) (a .at) (a .c .q) (a .c .r) (sees-nothing (c .enum-told .given .1) (c .before .before .look .ensures (pool (a .s .now)))) (λ y z. refl) _ refl
 
 same-length-5 : (t : ℕ) → lts.Need-same-length-5 (choose-claims t) (choose-at t) choose-reads.Post
 same-length-5 t c = c .before .before .before .before .before .before .before .before .before .query .kept .1 .0
 
 returns-5 : (t : ℕ) → lts.Need-returns-5 (choose-claims t) (choose-at t) choose-reads.Post
 unfolding branch
-returns-5 t c = let a = c .before .before .before .before .before .before .before .before .before .before .before .before .before .args in let h = c .before .before .before .before .before .before .before .before .before .before .before .before .before .pre .1 in let r = h .asks .ready in choose-stuck (a .s .now) (a .depth) r (a .p) (ran-done (c .before .before .before .before .before .root .given .1) (c .before .before .before .before .before .before .before .before .before .query .ensures)) (a .at) (a .q) (a .r) (sees-many (c .enum-told2 .given .1) (c .before .before .look .ensures (pool (a .s .now)))) (λ y z. refl) _ refl
+returns-5 t c = let a = c .before .before .before .before .before .before .before .before .before .before .before .before .before .args in let h = c .before .before .before .before .before .before .before .before .before .before .before .before .before .pre .1 in let r = h .asks .ready in choose-stuck (a .s .now) (a .depth) r (a .c .p) (ran-done (c .before .before .before .before .before .root .given .1) (c .before .before .before .before .before .before .before .before .before .query .ensures)) (a .at) (a .c .q) (a .c .r) (sees-many (c .enum-told2 .given .1) (c .before .before .look .ensures (pool (a .s .now)))) (λ y z. refl) _ refl
 
 same-length-6 : (t : ℕ) → lts.Need-same-length-6 (choose-claims t) (choose-at t) choose-reads.Post
 same-length-6 t c = c .before .before .before .before .before .before .before .before .before .query .kept .1 .0
 
 returns-6 : (t : ℕ) → lts.Need-returns-6 (choose-claims t) (choose-at t) choose-reads.Post
 unfolding branch
-returns-6 t c = let a = c .before .before .before .before .before .before .before .before .before .before .before .before .before .args in let h = c .before .before .before .before .before .before .before .before .before .before .before .before .before .pre .1 in let r = h .asks .ready in choose-stuck (a .s .now) (a .depth) r (a .p) (ran-done (c .before .before .before .before .before .root .given .1) (c .before .before .before .before .before .before .before .before .before .query .ensures)) (a .at) (a .q) (a .r) (sees-text (c .enum-told3 .given .1) (c .before .before .look .ensures (pool (a .s .now))) .is) (λ y z. refl) _ refl
+returns-6 t c = let a = c .before .before .before .before .before .before .before .before .before .before .before .before .before .args in let h = c .before .before .before .before .before .before .before .before .before .before .before .before .before .pre .1 in let r = h .asks .ready in choose-stuck (a .s .now) (a .depth) r (a .c .p) (ran-done (c .before .before .before .before .before .root .given .1) (c .before .before .before .before .before .before .before .before .before .query .ensures)) (a .at) (a .c .q) (a .c .r) (sees-text (c .enum-told3 .given .1) (c .before .before .look .ensures (pool (a .s .now))) .is) (λ y z. refl) _ refl
 
 same-length-7 : (t : ℕ) → lts.Need-same-length-7 (choose-claims t) (choose-at t) choose-reads.Post
 same-length-7 t c = c .before .before .before .before .before .before .before .before .before .query .kept .1 .0
 
 returns-7 : (t : ℕ) → lts.Need-returns-7 (choose-claims t) (choose-at t) choose-reads.Post
 unfolding branch
-returns-7 t c = let a = c .before .before .before .before .before .before .before .before .before .before .before .before .before .args in let h = c .before .before .before .before .before .before .before .before .before .before .before .before .before .pre .1 in let r = h .asks .ready in choose-stuck (a .s .now) (a .depth) r (a .p) (ran-done (c .before .before .before .before .before .root .given .1) (c .before .before .before .before .before .before .before .before .before .query .ensures)) (a .at) (a .q) (a .r) (sees-node (c .enum-told4 .given .1) (c .before .before .look .ensures (pool (a .s .now))) .is) (λ y z. refl) _ refl
+returns-7 t c = let a = c .before .before .before .before .before .before .before .before .before .before .before .before .before .args in let h = c .before .before .before .before .before .before .before .before .before .before .before .before .before .pre .1 in let r = h .asks .ready in choose-stuck (a .s .now) (a .depth) r (a .c .p) (ran-done (c .before .before .before .before .before .root .given .1) (c .before .before .before .before .before .before .before .before .before .query .ensures)) (a .at) (a .c .q) (a .c .r) (sees-node (c .enum-told4 .given .1) (c .before .before .look .ensures (pool (a .s .now))) .is) (λ y z. refl) _ refl
 
 pub met : {M : Type 1} (t : ℕ) → lts.Closed (choose-claims t) (choose-at t) choose-reads.Post M
 met t = lts.spec (choose-claims t) (choose-at t) choose-reads.Post (query-requires t) (enum-known-why t) (enum-known-root t) (look-requires t) (enum-known-b t) (statement-requires t) (statement-requires-2 t) (enum-told t) (enum-told-2 t) (enum-told-3 t) (enum-told-4 t) (same-length t) (returns t) (same-length-2 t) (returns-2 t) (same-length-3 t) (returns-3 t) (same-length-4 t) (returns-4 t) (same-length-5 t) (returns-5 t) (same-length-6 t) (returns-6 t) (same-length-7 t) (returns-7 t)

@@ -13,7 +13,7 @@ use Rattle.edit.proofs.+call+children+choose+iter+left+let_in+pair+righ
 use Rattle.edit.proofs.+call+children+choose+iter+left+let_in+pair+right+snapshot+statement+test+turn.Proof.Base.{let-in-claims, let-in-at}
 
 query-requires : (t : ℕ) → lts.Need-query-requires (let-in-claims t) (let-in-at t) let-in-reads.Post
-query-requires t c κs = let a = c .before .before .before .args in let h = c .before .before .before .pre .1 in let r = h .asks .ready in edits-query h ((fits-let (a .s .now) (a .depth) (a .scope) (a .p) (a .q) (h .asks .scope)) .0)
+query-requires t c κs = let a = c .before .before .before .args in let h = c .before .before .before .pre .1 in let r = h .asks .ready in edits-query h ((fits-let (a .s .now) (a .depth) (a .scope) (a .c .p) (a .c .q) (h .asks .scope)) .0)
 
 enum-known-why : (t : ℕ) → lts.Need-enum-known-why (let-in-claims t) (let-in-at t) let-in-reads.Post
 enum-known-why t c = search needs
@@ -22,10 +22,10 @@ enum-known-root : (t : ℕ) → lts.Need-enum-known-root (let-in-claims t) (let-
 enum-known-root t c = search needs
 
 with-requires : (t : ℕ) → lts.Need-with-requires (let-in-claims t) (let-in-at t) let-in-reads.Post
-with-requires t c κs = let a = c .before .before .before .before .before .before .before .before .before .before .args in let h = c .before .before .before .before .before .before .before .before .before .before .pre .1 in let r = h .asks .ready in let f = (ran-done (c .before .before .root .given .1) (c .before .before .before .before .before .before .query .ensures)) in (a-place (r .scoped) ((fits-let (a .s .now) (a .depth) (a .scope) (a .p) (a .q) (h .asks .scope)) .1), r .scoped .sixteen, omega (arith, f .inside, f .paid, r .roomy .small))
+with-requires t c κs = let a = c .before .before .before .before .before .before .before .before .before .before .args in let h = c .before .before .before .before .before .before .before .before .before .before .pre .1 in let r = h .asks .ready in let f = (ran-done (c .before .before .root .given .1) (c .before .before .before .before .before .before .query .ensures)) in (a-place (r .scoped) ((fits-let (a .s .now) (a .depth) (a .scope) (a .c .p) (a .c .q) (h .asks .scope)) .1), r .scoped .sixteen, omega (arith, f .inside, f .paid, r .roomy .small))
 
 statement-requires : (t : ℕ) → lts.Need-statement-requires (let-in-claims t) (let-in-at t) let-in-reads.Post
-statement-requires t c κs = let the-pre = c .before .before .before .before .before .before .before .before .before .before .before .pre in let the-query = c .before .before .before .before .before .before .before .query in let the-with = c .with in let a = c .before .before .before .before .before .before .before .before .before .before .before .args in let h = the-pre .1 in let r = h .asks .ready in let f = (ran-done (c .before .before .before .root .given .1) (the-query .ensures)) in let fit = (fits-let (a .s .now) (a .depth) (a .scope) (a .p) (a .q) (h .asks .scope)) in (omega (arith, the-pre .0), edits-with (edits-after h (a .focus) (the-query .kept .1 .0) f (omega (arith, r .focus, f .grown)) (h .asks .scope)) (the-with .ensures) (a-place (r .scoped) (fit .1)) (f .inside) (fits-more (a .s .now) (a .depth) (a .scope) (a .q) (the-with .ensures) (fit .2)))
+statement-requires t c κs = let the-pre = c .before .before .before .before .before .before .before .before .before .before .before .pre in let the-query = c .before .before .before .before .before .before .before .query in let the-with = c .with in let a = c .before .before .before .before .before .before .before .before .before .before .before .args in let h = the-pre .1 in let r = h .asks .ready in let f = (ran-done (c .before .before .before .root .given .1) (the-query .ensures)) in let fit = (fits-let (a .s .now) (a .depth) (a .scope) (a .c .p) (a .c .q) (h .asks .scope)) in (omega (arith, the-pre .0), edits-with (edits-after h (a .focus) (the-query .kept .1 .0) f (omega (arith, r .focus, f .grown)) (h .asks .scope)) (the-with .ensures) (a-place (r .scoped) (fit .1)) (f .inside) (fits-more (a .s .now) (a .depth) (a .scope) (a .c .q) (the-with .ensures) (fit .2)))
 
 same-length : (t : ℕ) → lts.Need-same-length (let-in-claims t) (let-in-at t) let-in-reads.Post
 same-length t c = c .before .before .before .before .before .query .kept .1 .0
@@ -38,7 +38,7 @@ same-length-2 : (t : ℕ) → lts.Need-same-length-2 (let-in-claims t) (let-in-a
 same-length-2 t c = c .before .before .statement .kept .1 .0 ∙ c .before .before .before .before .before .before .before .before .before .before .query .kept .1 .0
 
 returns-2 : (t : ℕ) → lts.Need-returns-2 (let-in-claims t) (let-in-at t) let-in-reads.Post
-returns-2 t c = let a = c .before .before .before .before .before .before .before .before .before .before .before .before .before .before .args in let h = c .before .before .before .before .before .before .before .before .before .before .before .before .before .before .pre .1 in let r = h .asks .ready in let-met (a .s .now) (a .depth) r (a .p) (ran-done (c .before .before .before .before .before .before .root .given .1) (c .before .before .before .before .before .before .before .before .before .before .query .ensures)) (a .q) (c .before .before .before .with .ensures) (c .before .before .statement .ensures .met)
+returns-2 t c = let a = c .before .before .before .before .before .before .before .before .before .before .before .before .before .before .args in let h = c .before .before .before .before .before .before .before .before .before .before .before .before .before .before .pre .1 in let r = h .asks .ready in let-met (a .s .now) (a .depth) r (a .c .p) (ran-done (c .before .before .before .before .before .before .root .given .1) (c .before .before .before .before .before .before .before .before .before .before .query .ensures)) (a .c .q) (c .before .before .before .with .ensures) (c .before .before .statement .ensures .met)
 
 pub met : {M : Type 1} (t : ℕ) → lts.Closed (let-in-claims t) (let-in-at t) let-in-reads.Post M
 met t = lts.spec (let-in-claims t) (let-in-at t) let-in-reads.Post (query-requires t) (enum-known-why t) (enum-known-root t) (with-requires t) (statement-requires t) (same-length t) (returns t) (same-length-2 t) (returns-2 t)
