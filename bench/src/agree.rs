@@ -6,7 +6,7 @@ use second::answers::Judged;
 use second::bundles;
 use second::cases::{Case, Cases};
 
-/// Compares so many cases of a seed: the reader's answer, and fit's to each type row, to row 0 and to the row past the last.
+/// Compares so many cases of a seed: the reader's answer, the check's and the run's, and fit's to each type row, to row 0 and to the row past the last.
 pub fn agree(seed: u64, count: usize) {
     let cases = Cases::new(seed);
     let (mut answers, mut different) = (0, 0);
@@ -41,9 +41,43 @@ fn both(case: &Case) -> Vec<(u64, u64)> {
         answers.push((packed(fit), proved::fit(&tables, row)));
     }
     #[cfg(feature = "run")]
-    answers.extend(runs(case, &judged, &tables));
+    {
+        answers.extend(checks(case, &judged, &tables));
+        answers.extend(runs(case, &judged, &tables));
+    }
     answers
 }
+
+/// The second program's check, packed as the proved one.
+#[cfg(feature = "run")]
+pub fn second_check(judged: &Judged, working: usize) -> u64 {
+    let reply = judged.check(second::answers::Lent::new(working, 0));
+    let units = u64::from(reply.units) << 16;
+    reply.result.as_ref().map_or_else(
+        |refusal| {
+            let (a, b) = refusal.carried();
+            u64::from(refusal.number()) + units + (u64::from(a) << 32) + (u64::from(b) << 48)
+        },
+        |()| units,
+    )
+}
+
+/// The check's answer; and the working rows, which are to be zero.
+#[cfg(feature = "run")]
+fn checks(case: &Case, judged: &Judged, tables: &[u8]) -> Vec<(u64, u64)> {
+    let (work, _) = case.lent.unwrap_or((6144, 8192));
+    let mut working = vec![PAINT; 8 * work];
+    let theirs = proved::check(tables, &mut working);
+    let zero = working.iter().all(|&byte| byte == 0);
+    vec![
+        (second_check(judged, work), theirs),
+        (1, u64::from(zero)),
+    ]
+}
+
+/// What lent rows hold before a call.
+#[cfg(feature = "run")]
+const PAINT: u8 = 0xa5;
 
 /// The second program's run, packed as the proved one, and its rows.
 #[cfg(feature = "run")]
@@ -73,7 +107,6 @@ pub fn units(sheet: &second::tables::Sheet) -> u64 {
 /// The run's answer; its rows, with what is past them; and the working rows, which are to be zero.
 #[cfg(feature = "run")]
 fn runs(case: &Case, judged: &Judged, tables: &[u8]) -> Vec<(u64, u64)> {
-    const PAINT: u8 = 0xa5;
     let (work, room) = case.lent.unwrap_or((6144, 8192));
     let (mut working, mut result) = (vec![PAINT; 8 * work], vec![PAINT; 8 * room]);
     let theirs = proved::run(tables, &mut working, &mut result);

@@ -5,6 +5,8 @@ extern "C" {
     fn bench_read(bundle: *const u8, bytes: usize, tables: *mut u8, room: usize) -> u64;
     fn bench_fit(sheet: *const u8, bytes: usize, told: usize) -> u64;
     #[cfg(feature = "run")]
+    fn bench_check(sheet: *const u8, bytes: usize, working: *mut u8, working_bytes: usize) -> u64;
+    #[cfg(feature = "run")]
     fn bench_run(
         sheet: *const u8,
         bytes: usize,
@@ -32,6 +34,20 @@ pub fn read(bundle: &[u8], tables: &mut [u8]) -> u64 {
 pub fn fit(sheet: &[u8], told: u16) -> u64 {
     // SAFETY: as above.
     unsafe { bench_fit(sheet.as_ptr(), sheet.len(), usize::from(told)) }
+}
+
+/// The check: its number, units, and carried row and flag.
+#[cfg(feature = "run")]
+pub fn check(sheet: &[u8], working: &mut [u8]) -> u64 {
+    // SAFETY: as above.
+    unsafe {
+        bench_check(
+            sheet.as_ptr(),
+            sheet.len(),
+            working.as_mut_ptr(),
+            working.len(),
+        )
+    }
 }
 
 /// The run: its number, units, root or carried row, and flag or rival.

@@ -1,3 +1,4 @@
 pub mod Said
 pub mod Load
 pub mod Ends
+pub mod Checking

@@ -1,4 +1,6 @@
-// The run, whole: the order of refusals, and the rows left behind. Working rows are zeroed in one place, after the answer is known.
+// The questions check and run, whole: the order of refusals, and the rows left behind. Working rows are zeroed in one place, after the answer is known.
+use grown::Found;
+use grown::Halt;
 use room::Handed;
 use sheet::Layout;
 use ties::Soundness;
@@ -13,16 +15,19 @@ ghost use mathlib.Core.List.{List};
 ghost use Prim.Native.Nat.{ℕ, _+_, _*_, _≤_, _<_};
 ghost use lib.ListN.{length};
 ghost use Rattle.meaning.specs.Words.{zeroed};
-ghost use Rattle.meaning.specs.Sheet.{sheetOf};
+ghost use Rattle.meaning.specs.Sheet.{scriptOf, sheetOf};
 ghost use Rattle.meaning.specs.Shape.{shapely};
 ghost use Rattle.meaning.specs.Run.{run-walk};
-ghost use Rattle.meaning.specs.Reply.{Loads, done, RunReply};
+ghost use Rattle.meaning.specs.Check.{check-walk};
+ghost use Rattle.meaning.specs.Reply.{Loads, done, RunReply, CheckReply};
+ghost use Rattle.grown.specs.Finds.{Halted};
 ghost use Rattle.sheet.specs.Laid.{Laid};
 ghost use Rattle.walk.specs.Meets.{Stopped};
 ghost use Rattle.rows.specs.Rows.{Readable};
 ghost use Rattle.desk.specs.Said.{ranReply, Says};
 ghost use Rattle.desk.specs.Load.{Loaded};
 ghost use Rattle.desk.specs.Ends.{MainEnds, leftOf, Begun, Gave};
+ghost use Rattle.desk.specs.Checking.{checkedReply, leftIn, CheckBegun, Concludes};
 
 // What a run says: its refusal or Done, with its units and the result's root.
 pub enum Ran {
@@ -116,13 +121,11 @@ fn judged(s: &[u8], work: &mut [u8], result: &mut [u8]) -> Ran
     }
 }
 
-// Every answer goes through here: the working rows are all zero after every call.
-fn clear(work: &mut [u8], answer: Ran) -> Ran
-    ensures same { λ r. ⌜ r ≡ answer ⌝ }
-    ensures zero { λ _. ⌜ now (work .exit) ≡ zeroed (now (work .entry)) ⌝ }
+// Every call ends here: the working rows are all zero after every call.
+fn clear(work: &mut [u8])
+    ensures { λ _. ⌜ now (work .exit) ≡ zeroed (now (work .entry)) ⌝ }
 {
     words::zero(work);
-    answer
 }
 
 // The edited forest, in the result rows.
@@ -130,5 +133,89 @@ pub fn run(s: &[u8], work: &mut [u8], result: &mut [u8]) -> Ran
     ensures { λ r. ⌜ RunReply (now (s .entry)) (now (work .entry)) (now (result .entry)) (ranReply r (now (result .exit)) (now (work .exit))) ⌝ }
 {
     let answer = judged(s, work, result);
-    clear(work, answer)
+    clear(work);
+    answer
+}
+
+// What a check says: its refusal or Done, with its units. A row is carried with 1 for a query, 2 for a statement, 0 for a declared output.
+pub enum Checked {
+    Done(usize),
+    Shape,
+    Barren(usize),
+    Tie(Tied),
+    Fuel(usize),
+    Depth(usize),
+    Wide { row: usize, flag: usize, units: usize },
+    Mismatch { row: usize, flag: usize, units: usize },
+    Outside { row: usize, flag: usize, units: usize },
+    Scratch,
+}
+
+// How an end that is no type is called.
+fn halted(why: Halt, fuel: usize) -> Checked
+    requires { ⌜ leftIn why ≤ fuel ⌝ }
+    ensures { λ c. ⌜ ((s lent : List ℕ) → CheckBegun s lent → fuel ≡ sheetOf s .checkFuel → Halted (check-walk (scriptOf s)) s (sheetOf s .checkFuel) why → Concludes s lent c) ⌝ }
+{
+    match why {
+        Halt::Fuel => Checked::Fuel(fuel),
+        Halt::Depth(purse) => Checked::Depth(purse.spent(fuel)),
+        Halt::Wide(row, flag, purse) => Checked::Wide {
+            row,
+            flag,
+            units: purse.spent(fuel),
+        },
+        Halt::Mismatch(row, flag, purse) => Checked::Mismatch {
+            row,
+            flag,
+            units: purse.spent(fuel),
+        },
+        Halt::Outside(row, flag, purse) => Checked::Outside {
+            row,
+            flag,
+            units: purse.spent(fuel),
+        },
+    }
+}
+
+// A sound sheet's check: Scratch first, then the walk.
+fn typed(s: &[u8], l: Layout, work: &mut [u8]) -> Checked
+    requires { ⌜ (shapely (now s) ≡ true) × (Laid (now s) l) × (Loads (now s) done) ⌝ }
+    ensures { λ c. ⌜ Concludes (now (s .entry)) (now (work .entry)) c ⌝ }
+{
+    let fuel = l.check_fuel;
+    if room::rows_lent(work) < fuel {
+        return Checked::Scratch;
+    }
+    match typing::check(s, work, Purse { left: fuel }) {
+        Found::Not(why) => halted(why, fuel),
+        Found::Done {
+            root: _,
+            used: _,
+            purse,
+        } => Checked::Done(purse.spent(fuel)),
+    }
+}
+
+// Refusals 2, 3 and 4, then the check.
+fn check_judged(s: &[u8], work: &mut [u8]) -> Checked
+    ensures { λ c. ⌜ Concludes (now (s .entry)) (now (work .entry)) c ⌝ }
+{
+    if !shape::shapely(s) {
+        return Checked::Shape;
+    }
+    let l = sheet::lay_out(s);
+    match ties::sound(s, l) {
+        Soundness::Barren(x) => Checked::Barren(x),
+        Soundness::Tie(t) => Checked::Tie(t),
+        Soundness::Done => typed(s, l, work),
+    }
+}
+
+// Does the script take A into B.
+pub fn check(s: &[u8], work: &mut [u8]) -> Checked
+    ensures { λ c. ⌜ CheckReply (now (s .entry)) (now (work .entry)) (checkedReply c (now (work .exit))) ⌝ }
+{
+    let answer = check_judged(s, work);
+    clear(work);
+    answer
 }

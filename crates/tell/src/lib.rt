@@ -1,5 +1,6 @@
 // The answers to a bundle, printed a line each in the form that the second program prints: `read N`, then `fit ROW N A B` for each type row, then `run N UNITS A B ROOT` with the result's rows.
 use bundle::Opened;
+use desk::Checked;
 use desk::Ran;
 use fields::field;
 use fit::Answer;
@@ -41,6 +42,30 @@ fn fit_answers(s: &[u8]) {
     }
 }
 
+fn check_line(n: usize, units: usize, a: usize, b: usize) {
+    io::write_all(1, b"check");
+    field(n);
+    field(units);
+    field(a);
+    field(b);
+    io::write_all(1, b"\n");
+}
+
+fn check_answer(s: &[u8], work: &mut [u8]) {
+    match desk::check(s, work) {
+        Checked::Done(units) => check_line(0, units, 0, 0),
+        Checked::Shape => check_line(2, 0, 0, 0),
+        Checked::Barren(x) => check_line(3, 0, x, 0),
+        Checked::Tie(t) => check_line(4, 0, t.row, t.rival),
+        Checked::Fuel(units) => check_line(5, units, 0, 0),
+        Checked::Depth(units) => check_line(6, units, 0, 0),
+        Checked::Wide { row, flag, units } => check_line(7, units, row, flag),
+        Checked::Mismatch { row, flag, units } => check_line(8, units, row, flag),
+        Checked::Outside { row, flag, units } => check_line(9, units, row, flag),
+        Checked::Scratch => check_line(12, 0, 0, 0),
+    }
+}
+
 fn run_line(n: usize, units: usize, a: usize, b: usize, root: usize) {
     io::write_all(1, b"run");
     field(n);
@@ -59,7 +84,7 @@ fn ran_line(answer: Ran) {
         Ran::Tie(t) => run_line(4, 0, t.row, t.rival, 0),
         Ran::Fuel(units) => run_line(5, units, 0, 0, 0),
         Ran::Depth(units) => run_line(6, units, 0, 0, 0),
-        Ran::Stuck { row, flag, units } => run_line(11, units, row, flag as usize, 0),
+        Ran::Stuck { row, flag, units } => run_line(11, units, row, flag, 0),
         Ran::Scratch => run_line(12, 0, 0, 0, 0),
         Ran::Room(units) => run_line(13, units, 0, 0, 0),
     }
@@ -95,6 +120,12 @@ fn result_rows() -> [u8; 524288]
     [0; 524288]
 }
 
+fn check_answers(s: &[u8], work: usize) {
+    let mut w = working_rows();
+    let m = lent(work, 6144);
+    check_answer(s, &mut w[..m]);
+}
+
 fn run_answers(s: &[u8], work: usize, result: usize) {
     let mut w = working_rows();
     let mut r = result_rows();
@@ -106,6 +137,7 @@ fn run_answers(s: &[u8], work: usize, result: usize) {
 fn sheet_answers(s: &[u8], work: usize, result: usize) {
     if shape::shapely(s) {
         read_line(0);
+        check_answers(s, work);
         fit_answers(s);
         run_answers(s, work, result);
     } else {

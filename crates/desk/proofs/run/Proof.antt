@@ -1,4 +1,5 @@
 -- `desk::run` meets its contract: what was judged, and the working rows zeroed.
+use mathlib.Core.Path.{refl}
 use Rattle.desk.specs.Said.{replied}
 use borrow.Author.Needs.{needs}
 use Rattle.desk.proofs.run.Statement.{statement}
@@ -17,9 +18,7 @@ same-length-2 : tie.Need-same-length-2
 same-length-2 c = search needs
 
 returns : tie.Need-returns
-returns c =
-    let start = c .before .before .before .before .before .before .before .before .before .before .before .before .before .before in
-    replied (start .args .s .now) (start .args .work .now) (start .args .result .now) (c .before .before .before .before .before .before .before .before .judged .last .1 .0) (c .before .before .before .before .before .before .before .before .judged .ensures) (c .before .before .clear .ensures .0) (c .before .before .clear .ensures .1) (c .before .before .before .before .before .before .before .before .judged .kept .1 .0)
+returns c = replied (c .before .before .before .before .before .before .before .before .before .before .before .before .before .before .args .s .now) (c .before .before .before .before .before .before .before .before .before .before .before .before .before .before .args .work .now) (c .before .before .before .before .before .before .before .before .before .before .before .before .before .before .args .result .now) (c .before .before .before .before .before .before .before .before .judged .last .1 .0) (c .before .before .before .before .before .before .before .before .judged .ensures) refl (c .before .before .clear .ensures) (c .before .before .before .before .before .before .before .before .judged .kept .1 .0)
 
 pub run-spec : {M : Type 1} → statement M
 run-spec = tie.close (tie.spec judged-requires clear-requires same-length same-length-2 returns)

@@ -1,0 +1,24 @@
+# A call on a focus of 513 rows: Wide, at the call, though only () is of it.
+
+from ()*
+to ()
+
+fuel check 4096, run 0
+
+procedure kept()
+  from ()
+  to () =
+  skip
+
+script
+  snapshot s in (insert
+    let x0 = () in
+    let x1 = x0, x0 in
+    let x2 = x1, x1 in
+    let x3 = x2, x2 in
+    let x4 = x3, x3 in
+    let x5 = x4, x4 in
+    let x6 = x5, x5 in
+    let x7 = x6, x6 in
+    (x7, x6, x5, x4, x3, x2, x1, (), (), ());
+  kept())
