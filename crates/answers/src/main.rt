@@ -1,4 +1,4 @@
-// The answers to the bundle on standard input. Two optional arguments: how many working and result rows are lent to its run; without them as many as `apply` lends.
+// The answers to the bundle on standard input. Two optional arguments: how many working and result rows are lent; without them as many as `apply` lends.
 fn main() {
     tell::answers(
         0,

@@ -1,4 +1,4 @@
-// The answers to stored bundles. The arguments name them, three words a case: the file, and how many working and result rows are lent to its run.
+// The answers to stored bundles. The arguments name them, three words a case: the file, and how many working and result rows are lent.
 fn one(name: usize, work: usize, result: usize) {
     let mut path = io::buffer();
     let n = os::arg(name, &mut path);

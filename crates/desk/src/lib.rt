@@ -31,13 +31,20 @@ ghost use Rattle.desk.specs.Checking.{checkedReply, leftIn, CheckBegun, 
 
 // What a run says: its refusal or Done, with its units and the result's root.
 pub enum Ran {
-    Done { units: usize, root: usize },
+    Done {
+        units: usize,
+        root: usize,
+    },
     Shape,
     Barren(usize),
     Tie(Tied),
     Fuel(usize),
     Depth(usize),
-    Stuck { row: usize, flag: usize, units: usize },
+    Stuck {
+        row: usize,
+        flag: usize,
+        units: usize,
+    },
     Scratch,
     Room(usize),
 }
@@ -145,9 +152,21 @@ pub enum Checked {
     Tie(Tied),
     Fuel(usize),
     Depth(usize),
-    Wide { row: usize, flag: usize, units: usize },
-    Mismatch { row: usize, flag: usize, units: usize },
-    Outside { row: usize, flag: usize, units: usize },
+    Wide {
+        row: usize,
+        flag: usize,
+        units: usize,
+    },
+    Mismatch {
+        row: usize,
+        flag: usize,
+        units: usize,
+    },
+    Outside {
+        row: usize,
+        flag: usize,
+        units: usize,
+    },
     Scratch,
 }
 

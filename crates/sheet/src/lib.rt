@@ -52,7 +52,11 @@ pub fn pool_from(s: &[u8]) -> usize
     ensures is { λ r. ⌜ r ≡ 2 * pool-at (now (s .entry)) ⌝ }
     ensures small { λ r. ⌜ r < 3145728 ⌝ }
 {
-    let procedures_at = 13 + word_at(s, 0) + 3 * word_at(s, 1) + 4 * word_at(s, 2) + 4 * word_at(s, 3);
+    let procedures_at = 13
+        + word_at(s, 0)
+        + 3 * word_at(s, 1)
+        + 4 * word_at(s, 2)
+        + 4 * word_at(s, 3);
     2 * (procedures_at + 5 * word_at(s, 4) + 4 * word_at(s, 5))
 }
 

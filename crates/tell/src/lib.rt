@@ -1,4 +1,4 @@
-// The answers to a bundle, printed a line each in the form that the second program prints: `read N`, then `fit ROW N A B` for each type row, then `run N UNITS A B ROOT` with the result's rows.
+// The answers to a bundle, printed a line each in the form that the second program prints: `read N`, `check N UNITS A B`, then `fit ROW N A B` for each type row, then `run N UNITS A B ROOT` with the result's rows.
 use bundle::Opened;
 use desk::Checked;
 use desk::Ran;
@@ -145,7 +145,7 @@ fn sheet_answers(s: &[u8], work: usize, result: usize) {
     }
 }
 
-// Reads a bundle from the descriptor, and answers; so many rows are lent to its run.
+// Reads a bundle from the descriptor, and answers; so many working rows are lent to its check and its run, and so many result rows.
 pub fn answers(fd: i32, work: usize, result: usize) {
     let mut input = [0u8; 45057];
     let n = io::read_full(fd, &mut input);
