@@ -1,6 +1,5 @@
 -- What a statement row finds, from what its parts find, by the laws of walks: rows written on the way leave the types of the variables and of the focus as they were.
-use Prim.Native.Nat.{ℕ, zero, suc, _+_, _≤_}
-use native.Mathlib.Omega.{arith}
+use Prim.Native.Nat.{ℕ, zero, suc, _+_}
 use mathlib.Core.Path.{_≡_, refl, sym, ap, _∙_, subst}
 use mathlib.Core.List.{List, [], _∷_, _++_}
 use borrow.Author.Tests.{eq-eqb, ne-eqb}
@@ -9,14 +8,14 @@ use Rattle.meaning.specs.Kinds.{Statement, Test, testForm, typeForm}
 use Rattle.meaning.specs.Types.{Ty, namesIn, atomOf, tyForm}
 use Rattle.meaning.specs.Types as types
 use Rattle.meaning.specs.Run as meaning
-use Rattle.meaning.specs.Walk.{of-statement, mismatch, ret, halt, ask, _>>=_}
+use Rattle.meaning.specs.Walk.{of-statement, mismatch, halt, ask, _>>=_}
 use Rattle.meaning.specs.Laws.Walk.{leads-then}
 use Rattle.meaning.specs.Check.{Asking, eight, is-in, written, typing, statement-type, tests, test-type, rename-type, children-type}
 use Rattle.walk.specs.Scope.{More}
 use Rattle.walk.specs.declared.Scope.{Scope}
 use Rattle.walk.specs.declared.Purse.{Purse}
-use Rattle.grown.specs.Grown.{tyIn, Grows}
-use Rattle.grown.specs.Finds.{top, Judges, Ready, Typed, Halted, Finds, ActsBy, typesOf, finds-as, finds-of, finds-halt, finds-then, halt-then, halt-leads, halt-mismatch, typed-ret, types-after}
+use Rattle.grown.specs.Grown.{tyIn}
+use Rattle.grown.specs.Finds.{Judges, Ready, Typed, Halted, Finds, ActsBy, typesOf, finds-as, finds-of, finds-halt, finds-then, halt-then, halt-leads, halt-mismatch, typed-ret, types-after}
 use Rattle.grown.specs.declared.Atom.the-variants.{Label}
 use Rattle.grown.specs.declared.Found.{Found}
 use Rattle.grown.specs.declared.Found.the-variants.{Done, Not}
@@ -28,7 +27,7 @@ use Rattle.within.specs.declared.Judgement.{Judgement}
 use Rattle.within.specs.declared.Judgement.the-variants as judgement
 use Rattle.infer.specs.Infer.{asked}
 use Rattle.infer.specs.Questions.{ask-wide, ask-fails, ask-holds}
-use Rattle.typing.specs.Typing.{goes, row-goes, body-goes, either-goes, fateOf, body-kept, on-kept, focus-kept, goes-kept, goes-with}
+use Rattle.typing.specs.Typing.{goes, row-goes, body-goes, either-goes, fateOf, on-kept, focus-kept, goes-kept, goes-with}
 use Rattle.typing.specs.declared.Fate.{Fate}
 use Rattle.typing.specs.declared.Fate.the-variants.{Misfit, Matched, Passed}
 

@@ -1,7 +1,7 @@
 -- What a body finds, a procedure and main: the types of the parameters are the declared ones, and the scope is Shape's.
 use Prim.Native.Nat.{ℕ, _+_, _≤_, _<_}
 use native.Mathlib.Omega.{arith}
-use mathlib.Core.Path.{_≡_, refl, sym, ap, _∙_, subst}
+use mathlib.Core.Path.{_≡_, sym, ap, _∙_, subst}
 use mathlib.Core.Bool.{true}
 use mathlib.Core.List.{List, [], _∷_, _++_}
 use borrow.Author.Tests.{eq-eqb, ne-eqb}
@@ -12,8 +12,8 @@ use Rattle.meaning.specs.Kinds.{present}
 use Rattle.meaning.specs.Types.{Ty, declared}
 use Rattle.meaning.specs.Shape.{Holds, parameters-scope, statement-scoped, shapely}
 use Rattle.meaning.specs.Reply.{done, Loads}
-use Rattle.meaning.specs.Walk.{of-output, ret, ask, _>>=_}
-use Rattle.meaning.specs.Check.{Asking, nine, is-in, body, declaration, typesAt}
+use Rattle.meaning.specs.Walk.{of-output, ret, ask}
+use Rattle.meaning.specs.Check.{nine, is-in, body, typesAt}
 use Rattle.meaning.specs.Laws.Shaped.{few-types}
 use Rattle.meaning.specs.Laws.Tests.{in-table}
 use Rattle.meaning.specs.Laws.Scoped.{main-in-scope, body-in-scope}
@@ -24,8 +24,7 @@ use Rattle.sheet.specs.declared.Layout.{Layout}
 use Rattle.walk.specs.Scope.{Fresh, More, Scoped, scoped-fresh, scoped-with}
 use Rattle.walk.specs.Fits.{shapeOf, held}
 use Rattle.walk.specs.declared.Scope.{Scope}
-use Rattle.walk.specs.declared.Purse.{Purse}
-use Rattle.grown.specs.Grown.{tyIn, Grows}
+use Rattle.grown.specs.Grown.{tyIn}
 use Rattle.grown.specs.Finds.{top, Room, Ready, Typed, Halted, Finds, typesOf, finds-as, finds-then, halt-then, types-fresh, types-with}
 use Rattle.grown.specs.declared.Found.{Found}
 use Rattle.grown.specs.declared.Halt.{Halt}

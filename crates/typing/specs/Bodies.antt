@@ -18,15 +18,13 @@ use Rattle.meaning.specs.Walk.{_>>=_}
 use Rattle.meaning.specs.Check.{Asking, declaration, body, bodies, check-walk}
 use Rattle.meaning.specs.Laws.Apart.{Low, shaped-lower}
 use Rattle.meaning.specs.Laws.Bools.{and-left, and-right}
-use Rattle.meaning.specs.Laws.Rows.{SameRows}
 use Rattle.meaning.specs.Laws.Tests.{table-high}
 use Rattle.meaning.specs.Laws.Shaped.{cells, part-of, types-pass, types-say, name-row, few-names, few-types}
 use Rattle.meaning.specs.Laws.Walk.{Leads, leads-then}
-use Rattle.meaning.specs.Theorems.ReadBack.{lentRow}
 use Rattle.meaning.specs.Theorems.Sound.Written.{loads-shapely}
 use Rattle.walk.specs.declared.Scope.{Scope}
 use Rattle.grown.specs.Grown.{typeIn, tyIn, Grows, in-sheet, in-none}
-use Rattle.grown.specs.Finds.{top, Judges, Room, Typed, Halted, Finds, typesOf, finds-as, finds-leads, halt-leads, halt-then, room-after}
+use Rattle.grown.specs.Finds.{Judges, Room, Typed, Halted, Finds, typesOf, finds-as, finds-leads, halt-leads, halt-then, room-after}
 use Rattle.grown.specs.declared.Found.{Found}
 use Rattle.grown.specs.declared.Halt.{Halt}
 use Rattle.atoms.specs.Both.{halted-as}

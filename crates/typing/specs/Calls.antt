@@ -1,16 +1,16 @@
 -- A call's procedure and a script's declared types, as Shape has seen them: each may be asked about; and what a call's arguments go as.
-use Prim.Native.Nat.{ℕ, _+_, _≤_}
+use Prim.Native.Nat.{ℕ, _≤_}
 use native.Mathlib.Omega.{arith}
 use mathlib.Core.Path.{_≡_, refl, sym, ap, _∙_, subst}
 use mathlib.Core.Bool.{Bool, true, false, cond, _||_}
-use mathlib.Core.List.{List, [], _∷_}
+use mathlib.Core.List.{List}
 use lib.Dec.{eqb}
 use borrow.Author.Tests.{eq-eqb, ne-eqb, leb-true}
 use Rattle.meaning.specs.Tests.{inTable, some}
 use Rattle.meaning.specs.Sheet.{Cells, Procedure, scriptOf, sheetOf, statements-of}
-use Rattle.meaning.specs.Kinds.{Statement, statementForm, statementAt, typeAt, typeForm, present}
+use Rattle.meaning.specs.Kinds.{typeAt, typeForm, present}
 use Rattle.meaning.specs.Types.{Ty, declared}
-use Rattle.meaning.specs.Places.{is-declared, is-content}
+use Rattle.meaning.specs.Places.{is-content}
 use Rattle.meaning.specs.Shape.{unused, query, argument, wordOk, wordsOk, statementUses, procedure-ok, shapely}
 use Rattle.meaning.specs.Run.{arguments}
 use Rattle.meaning.specs.Walk.{of-statement, ret, ask, _>>=_}
@@ -19,7 +19,6 @@ use Rattle.meaning.specs.Laws.Apart.{tyAt-same}
 use Rattle.meaning.specs.Laws.Bools.{or-left, or-right, and-left, and-right}
 use Rattle.meaning.specs.Laws.Tests.{in-table, table-low, table-high, some-at}
 use Rattle.meaning.specs.Laws.Shaped.{cells, roots, roots-pass, procedures-pass, procedures-say, statements-pass, statements-say}
-use Rattle.meaning.specs.Theorems.Sound.Written.{calls-named}
 use Rattle.sheet.specs.Laid.{cellsOf, procedureOf}
 use Rattle.sheet.specs.declared.Row.{Row}
 use Rattle.sheet.specs.declared.Procedure as sheet

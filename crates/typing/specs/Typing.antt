@@ -6,17 +6,17 @@ use mathlib.Core.Bool.{Bool, true}
 use mathlib.Core.List.{List, [], _∷_, _++_}
 use lib.ListN.{length}
 use Rattle.meaning.specs.Sheet.{scriptOf}
-use Rattle.meaning.specs.Kinds.{Statement, statementAt}
-use Rattle.meaning.specs.Types.{Ty, namesIn}
+use Rattle.meaning.specs.Kinds.{Statement, statementAt, testForm}
+use Rattle.meaning.specs.Types.{Ty, namesIn, atomOf}
 use Rattle.meaning.specs.Reply.{done, Loads}
 use Rattle.meaning.specs.Run as meaning
-use Rattle.meaning.specs.Walk.{tick, _>>=_}
-use Rattle.meaning.specs.Check.{Asking, written, statement-type, declaration, infer, typing}
+use Rattle.meaning.specs.Walk.{of-statement, tick, _>>=_}
+use Rattle.meaning.specs.Check.{Asking, written, parts, tests, rename-type, statement-type, declaration, infer, typing}
 use Rattle.walk.specs.Scope.{More, scoped-with}
 use Rattle.walk.specs.Fits.{deeper}
 use Rattle.walk.specs.declared.Scope.{Scope}
 use Rattle.walk.specs.declared.Purse.{Purse}
-use Rattle.grown.specs.Grown.{tyIn}
+use Rattle.grown.specs.Grown.{tyIn, Grows}
 use Rattle.grown.specs.Finds.{top, Ready, Typed, Halted, Finds, typesOf, finds-as, finds-tick, halt-tick, halt-depth, ready-after, ready-less, type-after, types-after, types-with}
 use Rattle.grown.specs.declared.Found.{Found}
 use Rattle.grown.specs.declared.Halt.the-variants.{Fuel, Depth}
@@ -51,10 +51,20 @@ RowGives s old new e n d at form focus left a = Finds (row-goes s old n e d at f
 abbrev pub EitherGives : List ℕ → List ℕ → List ℕ → Scope → ℕ → ℕ → ℕ → ℕ → ℕ → ℕ → Found → Type 0
 EitherGives s old new e n d q r focus left a = Finds (either-goes s old n e d q r focus) s left n old new a
 
+abbrev pub PartsGive : List ℕ → List ℕ → List ℕ → Scope → ℕ → ℕ → ℕ → ℕ → ℕ → Found → Type 0
+PartsGive s old new e n d body of left a = Finds (parts (body-goes s old n e d body) (tyIn s old n of)) s left n old new a
+
+abbrev pub RenameGives : List ℕ → List ℕ → List ℕ → ℕ → ℕ → ℕ → ℕ → ℕ → Found → Type 0
+RenameGives s old new n at label focus left a = Finds (rename-type (of-statement at) label (atomOf (namesIn (scriptOf s)) (tyIn s old n focus))) s left n old new a
+
+-- a test, of a focus among the rows that count
 abbrev pub fateOf : Fate → meaning.Fate
 fateOf Misfit = meaning.misfit
 fateOf Matched = meaning.matched
 fateOf Passed = meaning.passed
+
+abbrev pub Tested : List ℕ → List ℕ → ℕ → ℕ → ℕ → Fate → Type 0
+Tested s work p q focus f = (n : ℕ) → Grows s work n → focus ≤ top s + n → fateOf f ≡ tests (testForm p q) (atomOf (namesIn (scriptOf s)) (tyIn s work n focus))
 
 -- ---- what it asks
 

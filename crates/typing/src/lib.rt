@@ -1,4 +1,5 @@
-// How a check types statements (figure 4), bodies and a whole script: a cycle of evaluators in which the remaining depth falls and, where a type is worked through part by part, its row. A statement has a focus, the row of the type that it edits.
+// How a check types statements (figure 4), bodies and a whole script: a cycle of evaluators in which the remaining depth falls and,
+// where a type is worked through part by part, its row. A statement has a focus, the row of the type that it edits.
 use atoms::Part;
 use grown::Atom;
 use grown::Found;
@@ -11,21 +12,18 @@ use walk::Taken;
 use within::Judgement;
 ghost use mathlib.Core.Path.{_≡_};
 ghost use mathlib.Core.Bool.{true};
-ghost use Prim.Native.Nat.{ℕ, _*_, _+_, _<_, _≤_};
+ghost use Prim.Native.Nat.{_*_, _+_, _<_, _≤_};
 ghost use lib.ListN.{length};
 ghost use Rattle.meaning.specs.Tests.{inTable};
 ghost use Rattle.meaning.specs.Sheet.{scriptOf};
 ghost use Rattle.meaning.specs.Kinds.{Statement, testForm, present};
-ghost use Rattle.meaning.specs.Types.{namesIn, atomOf};
 ghost use Rattle.meaning.specs.Reply.{done, Loads};
 ghost use Rattle.meaning.specs.Shape.{shapely};
-ghost use Rattle.meaning.specs.Walk.{of-statement};
-ghost use Rattle.meaning.specs.Check.{tests, rename-type, check-walk, parts as through};
-ghost use Rattle.grown.specs.Grown.{tyIn, Grows};
+ghost use Rattle.meaning.specs.Check.{check-walk};
 ghost use Rattle.grown.specs.Finds.{top, Room, Finds};
 ghost use Rattle.edit.specs.Edit.{fits, fits-row};
 ghost use Rattle.infer.specs.Infer.{Asks};
-ghost use Rattle.typing.specs.Typing.{Checks, Gives, RowGives, EitherGives, body-goes, fateOf};
+ghost use Rattle.typing.specs.Typing.{Checks, Gives, RowGives, EitherGives, PartsGive, RenameGives, Tested};
 ghost use Rattle.typing.specs.Calls.{Called, Wanted, ArgumentsGive, LiesGives};
 ghost use Rattle.typing.specs.Bodies.{BodyGives, ProcedureGives};
 
@@ -42,7 +40,8 @@ fn insert(
     purse: Purse,
 ) -> Found
     requires { ⌜ Checks (now s) (now work) scope used focus (purse .left) (fits-row (now s) depth scope (Statement.insert p)) ⌝ }
-    ensures { λ a. ⌜ RowGives (now (s .entry)) (now (work .entry)) (now (work .exit)) scope used depth at (Statement.insert p) focus (purse .left) a ⌝ }
+    ensures { λ a. ⌜ RowGives (now (s .entry)) (now (work .entry)) (now (work .exit)) scope used depth at
+        (Statement.insert p) focus (purse .left) a ⌝ }
 {
     match within::plain(s, work, used, focus, 1) {
         Judgement::Wide => Found::Not(Halt::Wide(at, 2, purse)),
@@ -62,7 +61,7 @@ fn rename(
     purse: Purse,
 ) -> Found
     requires { ⌜ (Loads (now s) done) × (Room (now s) (now work) used (purse .left)) × (focus ≤ top (now s) + used) × (label < 65536) ⌝ }
-    ensures { λ a. ⌜ Finds (rename-type (of-statement at) label (atomOf (namesIn (scriptOf (now (s .entry)))) (tyIn (now (s .entry)) (now (work .entry)) used focus))) (now (s .entry)) (purse .left) used (now (work .entry)) (now (work .exit)) a ⌝ }
+    ensures { λ a. ⌜ RenameGives (now (s .entry)) (now (work .entry)) (now (work .exit)) used at label focus (purse .left) a ⌝ }
 {
     match grown::atom_of(s, work, focus) {
         Atom::Label(_, content) => write(s, work, used, 4, label, content, purse),
@@ -81,7 +80,7 @@ enum Fate {
 
 fn judge(s: &[u8], work: &[u8], p: usize, q: usize, focus: usize) -> Fate
     requires { ⌜ (shapely (now s) ≡ true) × (focus < 65536) ⌝ }
-    ensures { λ r. ⌜ ((n : ℕ) → Grows (now (s .entry)) (now (work .entry)) n → focus ≤ top (now (s .entry)) + n → fateOf r ≡ tests (testForm p q) (atomOf (namesIn (scriptOf (now (s .entry)))) (tyIn (now (s .entry)) (now (work .entry)) n focus))) ⌝ }
+    ensures { λ r. ⌜ Tested (now (s .entry)) (now (work .entry)) p q focus r ⌝ }
 {
     match grown::atom_of(s, work, focus) {
         Atom::Other => Fate::Misfit,
@@ -127,7 +126,8 @@ fn lies(
     given: usize,
     purse: Purse,
 ) -> Found
-    requires { ⌜ (Loads (now s) done) × (Room (now s) (now work) used (purse .left)) × (found ≤ top (now s) + used) × (given ≤ top (now s) + used) × (Wanted (now s) wanted) ⌝ }
+    requires { ⌜ (Loads (now s) done) × (Room (now s) (now work) used (purse .left)) × (found ≤ top (now s) + used) ×
+        (given ≤ top (now s) + used) × (Wanted (now s) wanted) ⌝ }
     ensures { λ a. ⌜ LiesGives (now (s .entry)) (now (work .entry)) used row flag found wanted given (purse .left) a ⌝ }
 {
     match within::declared(s, work, used, found, wanted) {
@@ -154,7 +154,8 @@ fn arguments(
     depth: usize,
     purse: Purse,
 ) -> Found
-    requires { ⌜ (Asks (now s) (now work) scope used (purse .left) (fits-row (now s) depth scope (Statement.call c (present q r)))) × (Called (now s) c q r) ⌝ }
+    requires { ⌜ (Asks (now s) (now work) scope used (purse .left) (fits-row (now s) depth scope (Statement.call c (present q r)))) ×
+        (Called (now s) c q r) ⌝ }
     ensures { λ a. ⌜ ArgumentsGive (now (s .entry)) (now (work .entry)) (now (work .exit)) scope used depth at c q r (purse .left) a ⌝ }
 {
     let one = sheet::procedure_at(s, c);
@@ -205,8 +206,10 @@ fn call(
     depth: usize,
     purse: Purse,
 ) -> Found
-    requires { ⌜ (Checks (now s) (now work) scope used focus (purse .left) (fits-row (now s) depth scope (Statement.call c (present q r)))) × (Called (now s) c q r) ⌝ }
-    ensures { λ a. ⌜ RowGives (now (s .entry)) (now (work .entry)) (now (work .exit)) scope used depth at (Statement.call c (present q r)) focus (purse .left) a ⌝ }
+    requires { ⌜ (Checks (now s) (now work) scope used focus (purse .left) (fits-row (now s) depth scope
+        (Statement.call c (present q r)))) × (Called (now s) c q r) ⌝ }
+    ensures { λ a. ⌜ RowGives (now (s .entry)) (now (work .entry)) (now (work .exit)) scope used depth at
+        (Statement.call c (present q r)) focus (purse .left) a ⌝ }
 {
     match within::declared(s, work, used, focus, sheet::procedure_at(s, c).input) {
         Judgement::Wide => Found::Not(Halt::Wide(at, 2, purse)),
@@ -276,7 +279,8 @@ fn pair(
     purse: Purse,
 ) -> Found
     requires { ⌜ Checks (now s) (now work) scope used focus (purse .left) (fits-row (now s) depth scope (Statement.then p q)) ⌝ }
-    ensures { λ a. ⌜ RowGives (now (s .entry)) (now (work .entry)) (now (work .exit)) scope used depth 0 (Statement.then p q) focus (purse .left) a ⌝ }
+    ensures { λ a. ⌜ RowGives (now (s .entry)) (now (work .entry)) (now (work .exit)) scope used depth 0
+        (Statement.then p q) focus (purse .left) a ⌝ }
 {
     match statement(s, work, scope, used, p, focus, depth, purse) {
         Found::Not(why) => Found::Not(why),
@@ -303,7 +307,8 @@ fn choose(
     purse: Purse,
 ) -> Found
     requires { ⌜ Checks (now s) (now work) scope used focus (purse .left) (fits-row (now s) depth scope (Statement.if p q r)) ⌝ }
-    ensures { λ a. ⌜ RowGives (now (s .entry)) (now (work .entry)) (now (work .exit)) scope used depth at (Statement.if p q r) focus (purse .left) a ⌝ }
+    ensures { λ a. ⌜ RowGives (now (s .entry)) (now (work .entry)) (now (work .exit)) scope used depth at
+        (Statement.if p q r) focus (purse .left) a ⌝ }
 {
     match query(s, work, scope, used, p, depth, purse) {
         Found::Not(why) => Found::Not(why),
@@ -364,7 +369,8 @@ fn let_in(
     purse: Purse,
 ) -> Found
     requires { ⌜ Checks (now s) (now work) scope used focus (purse .left) (fits-row (now s) depth scope (Statement.letin p q)) ⌝ }
-    ensures { λ a. ⌜ RowGives (now (s .entry)) (now (work .entry)) (now (work .exit)) scope used depth 0 (Statement.letin p q) focus (purse .left) a ⌝ }
+    ensures { λ a. ⌜ RowGives (now (s .entry)) (now (work .entry)) (now (work .exit)) scope used depth 0
+        (Statement.letin p q) focus (purse .left) a ⌝ }
 {
     match query(s, work, scope, used, p, depth, purse) {
         Found::Not(why) => Found::Not(why),
@@ -388,7 +394,8 @@ fn snapshot(
     purse: Purse,
 ) -> Found
     requires { ⌜ Checks (now s) (now work) scope used focus (purse .left) (fits-row (now s) depth scope (Statement.snapshot p)) ⌝ }
-    ensures { λ a. ⌜ RowGives (now (s .entry)) (now (work .entry)) (now (work .exit)) scope used depth 0 (Statement.snapshot p) focus (purse .left) a ⌝ }
+    ensures { λ a. ⌜ RowGives (now (s .entry)) (now (work .entry)) (now (work .exit)) scope used depth 0
+        (Statement.snapshot p) focus (purse .left) a ⌝ }
 {
     statement(s, work, scope.with(1, focus), used, p, focus, depth, purse)
 }
@@ -407,8 +414,10 @@ fn test(
     depth: usize,
     purse: Purse,
 ) -> Found
-    requires { ⌜ Checks (now s) (now work) scope used focus (purse .left) (fits-row (now s) depth scope (Statement.test (testForm p q) r)) ⌝ }
-    ensures { λ a. ⌜ RowGives (now (s .entry)) (now (work .entry)) (now (work .exit)) scope used depth at (Statement.test (testForm p q) r) focus (purse .left) a ⌝ }
+    requires { ⌜ Checks (now s) (now work) scope used focus (purse .left) (fits-row (now s) depth scope
+        (Statement.test (testForm p q) r)) ⌝ }
+    ensures { λ a. ⌜ RowGives (now (s .entry)) (now (work .entry)) (now (work .exit)) scope used depth at
+        (Statement.test (testForm p q) r) focus (purse .left) a ⌝ }
 {
     match judge(s, work, p, q, focus) {
         Fate::Misfit => Found::Not(Halt::Mismatch(at, 2, purse)),
@@ -434,7 +443,8 @@ fn children(
     purse: Purse,
 ) -> Found
     requires { ⌜ Checks (now s) (now work) scope used focus (purse .left) (fits-row (now s) depth scope (Statement.children p)) ⌝ }
-    ensures { λ a. ⌜ RowGives (now (s .entry)) (now (work .entry)) (now (work .exit)) scope used depth at (Statement.children p) focus (purse .left) a ⌝ }
+    ensures { λ a. ⌜ RowGives (now (s .entry)) (now (work .entry)) (now (work .exit)) scope used depth at
+        (Statement.children p) focus (purse .left) a ⌝ }
 {
     match grown::atom_of(s, work, focus) {
         Atom::Label(label, content) => match statement(
@@ -472,7 +482,8 @@ fn left(
     purse: Purse,
 ) -> Found
     requires { ⌜ Checks (now s) (now work) scope used focus (purse .left) (fits-row (now s) depth scope (Statement.left p)) ⌝ }
-    ensures { λ a. ⌜ RowGives (now (s .entry)) (now (work .entry)) (now (work .exit)) scope used depth 0 (Statement.left p) focus (purse .left) a ⌝ }
+    ensures { λ a. ⌜ RowGives (now (s .entry)) (now (work .entry)) (now (work .exit)) scope used depth 0
+        (Statement.left p) focus (purse .left) a ⌝ }
 {
     match statement(s, work, scope, used, p, 0, depth, purse) {
         Found::Not(why) => Found::Not(why),
@@ -496,7 +507,8 @@ fn right(
     purse: Purse,
 ) -> Found
     requires { ⌜ Checks (now s) (now work) scope used focus (purse .left) (fits-row (now s) depth scope (Statement.right p)) ⌝ }
-    ensures { λ a. ⌜ RowGives (now (s .entry)) (now (work .entry)) (now (work .exit)) scope used depth 0 (Statement.right p) focus (purse .left) a ⌝ }
+    ensures { λ a. ⌜ RowGives (now (s .entry)) (now (work .entry)) (now (work .exit)) scope used depth 0
+        (Statement.right p) focus (purse .left) a ⌝ }
 {
     match statement(s, work, scope, used, p, 0, depth, purse) {
         Found::Not(why) => Found::Not(why),
@@ -520,7 +532,7 @@ fn parts(
     purse: Purse,
 ) -> Found
     requires { ⌜ Checks (now s) (now work) scope used of (purse .left) (fits (now s) depth scope body) ⌝ }
-    ensures { λ a. ⌜ Finds (through (body-goes (now (s .entry)) (now (work .entry)) used scope depth body) (tyIn (now (s .entry)) (now (work .entry)) used of)) (now (s .entry)) (purse .left) used (now (work .entry)) (now (work .exit)) a ⌝ }
+    ensures { λ a. ⌜ PartsGive (now (s .entry)) (now (work .entry)) (now (work .exit)) scope used depth body of (purse .left) a ⌝ }
 {
     match purse.take() {
         Taken::Fuel => Found::Not(Halt::Fuel),
@@ -611,7 +623,8 @@ fn procedure(s: &[u8], work: &mut [u8], used: usize, c: usize, purse: Purse) -> 
 // Every procedure in number order, then main from A to B, for one purse.
 pub fn check(s: &[u8], work: &mut [u8], purse: Purse) -> Found
     requires { ⌜ (Loads (now s) done) × (8 * purse .left ≤ length (now work)) × (purse .left ≤ 4096) ⌝ }
-    ensures { λ a. ⌜ Finds (check-walk (scriptOf (now (s .entry)))) (now (s .entry)) (purse .left) 0 (now (work .entry)) (now (work .exit)) a ⌝ }
+    ensures { λ a. ⌜ Finds (check-walk (scriptOf (now (s .entry))))
+        (now (s .entry)) (purse .left) 0 (now (work .entry)) (now (work .exit)) a ⌝ }
 {
     let l = sheet::lay_out(s);
     let mut c = 0;

@@ -1,5 +1,4 @@
 -- `typing::body` meets its contract: the statement, then its output against the declared one.
-use native.Mathlib.Omega.{arith}
 use Rattle.grown.specs.Finds.{finds-done, finds-not, finds-halt, room-after}
 use Rattle.typing.proofs.Wholes.{body-halts, body-finds}
 use borrow.Author.Needs.{needs}

@@ -1,6 +1,5 @@
 -- A statement row: a level of depth, a unit, and then by its kind.
 use native.Mathlib.Omega.{arith}
-use mathlib.Core.Path.{refl}
 use Rattle.meaning.specs.Types.{tyForm}
 use Rattle.meaning.specs.Check.{statement-type}
 use Rattle.meaning.specs.Theorems.Sound.Written.{loads-shapely}
