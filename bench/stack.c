@@ -1,5 +1,5 @@
 /* The stack of the proved calls on x86-64: paints what is below the stack pointer, calls, and looks how far down the paint is gone.
-   A bundle comes on standard input, the type row as the argument; prints answer and bytes for read, for fit and, with -DRUN, for run.
+   A bundle comes on standard input, the type row as the argument; prints answer and bytes for read, for fit and, with -DRUN, for run and check.
    It is compiled by the kit's compiler, which has no headers: what is called is declared here. */
 typedef unsigned char byte;
 typedef unsigned long size;
@@ -10,6 +10,7 @@ int atoi(const char *);
 
 size bench_read(const byte *bundle, size bytes, byte *tables, size room);
 size bench_fit(const byte *sheet, size bytes, size told);
+size bench_check(const byte *sheet, size bytes, byte *working, size working_bytes);
 size bench_run(const byte *sheet, size bytes, byte *working, size working_bytes, byte *result, size result_bytes);
 
 enum { PAINTED = 4 << 20, PAINT = 0xa5, BUNDLE = 45057, TABLES = 88 * 508, WORKING = 8 * 6144, RESULT = 8 * 8192 };
@@ -50,6 +51,7 @@ int main(int count, char **words) {
 #ifdef RUN
     static byte working[WORKING], result[RESULT];
     MEASURE("run", bench_run(tables, TABLES, working, WORKING, result, RESULT) % 65536);
+    MEASURE("check", bench_check(tables, TABLES, working, WORKING) % 65536);
 #endif
     return 0;
 }

@@ -69,10 +69,7 @@ fn checks(case: &Case, judged: &Judged, tables: &[u8]) -> Vec<(u64, u64)> {
     let mut working = vec![PAINT; 8 * work];
     let theirs = proved::check(tables, &mut working);
     let zero = working.iter().all(|&byte| byte == 0);
-    vec![
-        (second_check(judged, work), theirs),
-        (1, u64::from(zero)),
-    ]
+    vec![(second_check(judged, work), theirs), (1, u64::from(zero))]
 }
 
 /// What lent rows hold before a call.

@@ -333,6 +333,14 @@ pub fn p1() -> Input {
     Input::of("P1", &script)
 }
 
+/// The same sheet, for its check.
+pub fn p3() -> Input {
+    Input {
+        name: "P3".into(),
+        ..p1()
+    }
+}
+
 /// S on so many groups a[b,b,b,c,b,b],d: 62 units for each, and 1.
 pub fn groups(count: usize) -> Input {
     let script = Script {
@@ -369,4 +377,156 @@ pub fn nested_loops(trees: usize, fuel: u16) -> Input {
         ..Script::new(Ty::Empty, body, Ty::Bool)
     };
     Input::of(format!("three loops over {trees} trees"), &script)
+}
+
+/// `1*, 2*, …`: 4 rows for each label.
+fn row_of_stars(labels: u16) -> Ty {
+    all((1..=labels).map(|label| empty(label).star()), Ty::then)
+}
+
+fn no_text() -> Qu {
+    Qu::Text {
+        offset: 0,
+        length: 0,
+    }
+}
+
+/// The slowest sheet of the second program's `tests/limits.rs`: each question has one more text in the found type.
+pub fn limits() -> Input {
+    let call = || St::Call(1, Vec::new());
+    let step = |it: St| it.then(St::right(St::Insert(no_text())).then(call()));
+    let script = Script {
+        procedures: vec![Declaration {
+            parameters: Vec::new(),
+            input: row_of_stars(58).then(Ty::Text.star()),
+            output: row_of_stars(58),
+            body: St::iter(St::test(Test::Text, St::Delete)),
+        }],
+        ..Script::new(
+            (1..6).map(empty).fold(Ty::Text, Ty::then),
+            St::iter(St::left(nested(call(), 95, step))),
+            Ty::Text.star(),
+        )
+    };
+    Input::of("slowest of the limits test", &script)
+}
+
+/// Full tables of the second program's cases: the check goes through.
+pub fn full() -> Input {
+    let script = second::cases::special::full(&mut second::dice::Dice::new(3));
+    Input::of("full tables", &script)
+}
+
+/// So many statements one after the other, no deeper than they must be.
+fn chain(count: usize, one: &dyn Fn() -> St) -> St {
+    match count {
+        1 => one(),
+        _ => chain(count / 2, one).then(chain(count - count / 2, one)),
+    }
+}
+
+/// Calls until fuel is out, each of which asks whether an argument of some 490 rows is of a declared type of 491.
+fn asks(name: &str, calls: usize, argument: fn() -> Qu) -> Input {
+    let body = chain(calls, &|| St::Call(1, vec![argument()]));
+    let atoms = [1, 2, 3, 4].map(empty);
+    let any_of = atoms.into_iter().fold(Ty::Text.or(Ty::Bool), Ty::or);
+    let script = Script {
+        procedures: vec![Declaration {
+            parameters: vec![row_of_stars(123)],
+            input: any_of.star(),
+            output: Ty::Empty,
+            body: St::iter(St::left(body)),
+        }],
+        ..Script::new(Ty::Empty, St::Skip, Ty::Empty)
+    };
+    Input::of(name, &script)
+}
+
+/// Each found type is written anew: 7 units a question.
+pub fn many_inclusions() -> Input {
+    asks("many inclusions", 170, || Qu::Variable(0).join(Qu::Empty))
+}
+
+/// One question again and again, 3 units each: the second program keeps its answer, the proved one decides it each time.
+pub fn one_inclusion_again() -> Input {
+    asks("one inclusion, again", 250, || Qu::Variable(0))
+}
+
+/// `X = a[…X…]` with so many rows around X in its content.
+fn deep_name(rows: usize, around: fn(Ty) -> Ty) -> Vec<Ty> {
+    let inside = nested(Ty::Name(1).star(), rows - 1, around);
+    vec![Ty::label(A, inside)]
+}
+
+/// Type rows visited one in the other, as many as fuel lets, at 200 levels of statements: tests around
+/// `children [iter [children [iter […]]]]` around a call, whose focus is asked.
+fn deep_visits(name: &str, levels: usize, rows: usize, around: fn(Ty) -> Ty) -> Input {
+    let into = |it| St::children(St::iter(it));
+    let visits = nested(St::Call(1, Vec::new()), levels, into);
+    let tests = 199 - 2 * levels;
+    let script = Script {
+        names: deep_name(rows, around),
+        procedures: vec![Declaration {
+            parameters: Vec::new(),
+            input: Ty::Name(1),
+            output: Ty::Name(1),
+            body: St::Skip,
+        }],
+        ..Script::new(
+            Ty::Name(1),
+            nested(visits, tests, |it| St::test(Test::Any, it)),
+            Ty::Name(1),
+        )
+    };
+    Input::of(name, &script)
+}
+
+/// The same in a query: `for x in v return for y in children of x return …`, around a same, whose sides are asked.
+fn deep_visits_asked(name: &str, levels: usize, rows: usize, around: fn(Ty) -> Ty) -> Input {
+    let loops = |it, at| Qu::Children(at).each(it);
+    let innermost = no_text().same(no_text());
+    let query = (1..=levels as u16).rev().fold(innermost, loops);
+    let inside = St::snapshot(St::bind(Qu::Variable(0).each(query), St::Skip));
+    let tests = 195 - levels;
+    let script = Script {
+        names: deep_name(rows, around),
+        ..Script::new(
+            Ty::Name(1),
+            nested(inside, tests, |it| St::test(Test::Any, it)),
+            Ty::Name(1),
+        )
+    };
+    Input::of(name, &script)
+}
+
+/// What makes the check's stack deep: stars, and sequences of which the first part is the deep one.
+pub fn deep_types() -> [Input; 6] {
+    let pair = |it: Ty| it.then(Ty::Empty);
+    [
+        deep_visits("stars of 500, to fuel", 9, 500, Ty::star),
+        deep_visits("stars, a call asked", 9, 431, Ty::star),
+        deep_visits("pairs of 250, to fuel", 17, 250, pair),
+        deep_visits("pairs, a call asked", 16, 241, pair),
+        deep_visits_asked("stars in queries, asked", 9, 430, Ty::star),
+        deep_visits_asked("pairs in queries, asked", 14, 254, pair),
+    ]
+}
+
+/// 199 levels of ifs, then a call that is asked.
+pub fn deep_ifs() -> Input {
+    let around = |it| St::choose(Qu::Bool(true), St::Skip, it);
+    let script = Script {
+        procedures: vec![Declaration {
+            parameters: Vec::new(),
+            input: Ty::Empty,
+            output: Ty::Empty,
+            body: St::Skip,
+        }],
+        ..Script::new(
+            Ty::Empty,
+            nested(St::Call(1, Vec::new()), 199, around),
+            Ty::Empty,
+        )
+    };
+    Input::of("199 levels of ifs, a call asked", &script)
 }

@@ -208,6 +208,46 @@ fn runs() {
     each_unit(&of_fuel(0), &[512, 1024, 2048, 4096].map(of_fuel));
     head("S on more groups, with its result rows");
     each_unit(&inputs::groups(0), &[8, 16, 32, 64].map(inputs::groups));
+    head("The check: a sheet to its answer (2 to 9, 12)");
+    for input in checked() {
+        let units = check_units(&input.sheet);
+        let name = format!("{}, {units} units", input.name);
+        row(&name, &compare_check(&input));
+    }
+}
+
+/// The sheets whose check is timed.
+#[cfg(feature = "run")]
+fn checked() -> [Input; 7] {
+    [
+        inputs::p3(),
+        inputs::largest(),
+        inputs::largest_wide(),
+        inputs::full(),
+        inputs::many_inclusions(),
+        inputs::one_inclusion_again(),
+        inputs::limits(),
+    ]
+}
+
+/// How many units a sheet's check takes.
+#[cfg(feature = "run")]
+fn check_units(sheet: &Sheet) -> u64 {
+    let answer = agree::second_check(&Judged::new(sheet), second::answers::WORKING_ROWS);
+    answer >> 16 & 0xffff
+}
+
+#[cfg(feature = "run")]
+fn compare_check(input: &Input) -> Compared {
+    use second::answers::WORKING_ROWS;
+    let tables = tables_of(input);
+    let mut working = vec![0; 8 * WORKING_ROWS];
+    compare(&mut || proved::check(&tables, &mut working), &mut || {
+        if !well_shaped(&input.sheet) {
+            return 2;
+        }
+        agree::second_check(&Judged::new(&input.sheet), WORKING_ROWS)
+    })
 }
 
 /// Times, and what each unit takes past the run that has next to none.
@@ -272,6 +312,10 @@ fn counted() -> Vec<(&'static str, Input)> {
             ("bench_run", inputs::nested_loops(9, 4096)),
             ("bench_run", inputs::few_touched()),
             ("bench_run", inputs::p1()),
+            ("bench_check", inputs::p3()),
+            ("bench_check", inputs::largest()),
+            ("bench_check", inputs::full()),
+            ("bench_check", inputs::many_inclusions()),
         ]);
     }
     all
@@ -299,6 +343,10 @@ fn once(place: usize) {
     {
         use second::answers::{RESULT_ROWS, WORKING_ROWS};
         let (mut working, mut result) = (vec![0; 8 * WORKING_ROWS], vec![0; 8 * RESULT_ROWS]);
+        if call == "bench_check" {
+            proved::check(&tables, &mut working);
+            return;
+        }
         assert_eq!(proved::run(&tables, &mut working, &mut result) % 65536, 0);
     }
 }
@@ -312,6 +360,12 @@ fn write_bundles(folder: &Path) {
     all.extend([inputs::p1(), inputs::groups(64), inputs::few_touched()]);
     all.push(inputs::nested_loops(9, 4096));
     all.extend([inputs::calls(), inputs::deep_query(), inputs::deep_loops()]);
+    all.extend(inputs::deep_types());
+    all.extend([
+        inputs::deep_ifs(),
+        inputs::many_inclusions(),
+        inputs::limits(),
+    ]);
     for input in all {
         let name = input.name.replace(',', "").replace(' ', "-");
         let path = folder.join(format!("{name}.{}.bundle", input.sheet.a));
