@@ -21,6 +21,7 @@ ghost use Rattle.meaning.specs.Run.{run-walk};
 ghost use Rattle.meaning.specs.Check.{check-walk};
 ghost use Rattle.meaning.specs.Reply.{Loads, done, RunReply, CheckReply};
 ghost use Rattle.grown.specs.Finds.{Halted};
+ghost use Rattle.tables.specs.Lent.{Lent};
 ghost use Rattle.sheet.specs.Laid.{Laid};
 ghost use Rattle.walk.specs.Meets.{Stopped};
 ghost use Rattle.rows.specs.Rows.{Readable};
@@ -196,16 +197,26 @@ fn halted(why: Halt, fuel: usize) -> Checked
     }
 }
 
-// A sound sheet's check: Scratch first, then the walk.
-fn typed(s: &[u8], l: Layout, work: &mut [u8]) -> Checked
+// A sound sheet's check, by its tables: Scratch first, then the walk.
+fn typed(
+    s: &[u8],
+    l: Layout,
+    work: &mut [u8],
+    first: &[u64; 4617],
+    behind: &[u64; 4617],
+    class: &[u16; 1026],
+    same: &[u64; 4617],
+    kin: &[u16; 576],
+) -> Checked
     requires { ⌜ (shapely (now s) ≡ true) × (Laid (now s) l) × (Loads (now s) done) ⌝ }
+    requires { ⌜ Lent (now s) (now first) (now behind) (now class) (now same) (now kin) ⌝ }
     ensures { λ c. ⌜ Concludes (now (s .entry)) (now (work .entry)) c ⌝ }
 {
     let fuel = l.check_fuel;
     if room::rows_lent(work) < fuel {
         return Checked::Scratch;
     }
-    match typing::check(s, work, Purse { left: fuel }) {
+    match typing::check(s, work, first, behind, class, same, kin, Purse { left: fuel }) {
         Found::Not(why) => halted(why, fuel),
         Found::Done {
             root: _,
@@ -223,10 +234,15 @@ fn check_judged(s: &[u8], work: &mut [u8]) -> Checked
         return Checked::Shape;
     }
     let l = sheet::lay_out(s);
-    match ties::sound(s, l) {
+    let mut first = [0u64; 4617];
+    let mut behind = [0u64; 4617];
+    let mut class = [0u16; 1026];
+    let mut same = [0u64; 4617];
+    let mut kin = [0u16; 576];
+    match tables::judge(s, l, &mut first, &mut behind, &mut class, &mut same, &mut kin) {
         Soundness::Barren(x) => Checked::Barren(x),
         Soundness::Tie(t) => Checked::Tie(t),
-        Soundness::Done => typed(s, l, work),
+        Soundness::Done => typed(s, l, work, &first, &behind, &class, &same, &kin),
     }
 }
 

@@ -131,19 +131,30 @@ fn of_type(s: &[u8], l: Layout, told: usize) -> bool
     let mut class = [0u16; 1026];
     let mut same = [0u64; 4617];
     top[told] = 1;
-    places::firsts(s, l.types_at, l.types, &mut null, &mut first);
+    places::firsts(s, l.types_at, l.types, 0, &mut null, &mut first);
     roots::roots(s, l, &mut root);
     places::behinds(
         s,
         l.types_at,
         l.types,
+        0,
         l.types,
         &root,
         &null,
         &first,
         &mut behind,
     );
-    places::behinds(s, l.types_at, l.types, told, &top, &null, &first, &mut next);
+    places::behinds(
+        s,
+        l.types_at,
+        l.types,
+        0,
+        told,
+        &top,
+        &null,
+        &first,
+        &mut next,
+    );
     heads::classes(s, l, &mut class, &mut same);
     trees(
         s,

@@ -327,7 +327,7 @@ fn for_each(
     }
 }
 
-// A type part by part: the body with each atom as a tree variable.
+// A type part by part: the body with each atom as a tree variable. One answer at a time, in `a`: a type row visited is a frame, and thousands may be visited at once.
 fn parts(
     s: &[u8],
     work: &mut [u8],
@@ -341,6 +341,7 @@ fn parts(
     requires { ⌜ (Asks (now s) (now work) scope used (purse .left) (fits-body (now s) depth scope body)) × (of ≤ top (now s) + used) ⌝ }
     ensures { λ a. ⌜ Finds (through (body-asked (now (s .entry)) (now (work .entry)) used scope depth body) (tyIn (now (s .entry)) (now (work .entry)) used of)) (now (s .entry)) (purse .left) used (now (work .entry)) (now (work .exit)) a ⌝ }
 {
+    let mut a = Found::Not(Halt::Fuel);
     match purse.take() {
         Taken::Fuel => Found::Not(Halt::Fuel),
         Taken::Left(rest) => match atoms::part_of(s, work, of) {
@@ -349,30 +350,42 @@ fn parts(
                 used,
                 purse: rest,
             },
-            Part::Atom => query(s, work, scope.with(2, of), used, body, depth, rest),
-            Part::Star(p) => match parts(s, work, scope, used, body, p, depth, rest) {
-                Found::Not(why) => Found::Not(why),
-                Found::Done {
-                    root,
-                    used: n,
-                    purse: left,
-                } => write(s, work, n, 7, root, 0, left),
-            },
-            Part::Pair(kind, p, q) => match parts(s, work, scope, used, body, p, depth, rest) {
-                Found::Not(why) => Found::Not(why),
-                Found::Done {
-                    root: x,
-                    used: n,
-                    purse: left,
-                } => match parts(s, work, scope, n, body, q, depth, left) {
+            Part::Atom => {
+                a = query(s, work, scope.with(2, of), used, body, depth, rest);
+                a
+            }
+            Part::Star(p) => {
+                a = parts(s, work, scope, used, body, p, depth, rest);
+                match a {
                     Found::Not(why) => Found::Not(why),
                     Found::Done {
-                        root: y,
-                        used: m,
-                        purse: most,
-                    } => write(s, work, m, kind, x, y, most),
-                },
-            },
+                        root,
+                        used: n,
+                        purse: left,
+                    } => write(s, work, n, 7, root, 0, left),
+                }
+            }
+            Part::Pair(kind, p, q) => {
+                a = parts(s, work, scope, used, body, p, depth, rest);
+                match a {
+                    Found::Not(why) => Found::Not(why),
+                    Found::Done {
+                        root: x,
+                        used: n,
+                        purse: left,
+                    } => {
+                        a = parts(s, work, scope, n, body, q, depth, left);
+                        match a {
+                            Found::Not(why) => Found::Not(why),
+                            Found::Done {
+                                root: y,
+                                used: m,
+                                purse: most,
+                            } => write(s, work, m, kind, x, y, most),
+                        }
+                    }
+                }
+            }
         },
     }
 }

@@ -147,7 +147,7 @@ module _ {s own opens nexts first behind class same own-kin kin : List ℕ} (X :
   own-headed a p = own-head a (own-low a p .0) (placed-kind p)
 
   own-asked : (a : ℕ) → O a .kind ≡ 4 → Asked O first behind (O a .q)
-  own-asked a k = let h = own-apart (X .standing .written) .content a k in record { high = table-high 512 (O a .q) h; wired = X .mine .contents a k; begins = X .mine .begins (O a .q) h }
+  own-asked a k = let h = own-apart (X .standing .written) .content a k in record { high = table-high 512 (O a .q) h; wired = X .mine .contents a k; begins = X .mine .insides a k }
 
   own-next : (a : ℕ) → 1 ≤ a → foundNext s nexts behind (T + a) ≡ lift T (setOf behind a)
   own-next a l = let z : T + a - T ≡ a = omega arith in rw (lt-leb (T + a) T (omega arith), z)

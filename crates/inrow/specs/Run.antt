@@ -112,7 +112,7 @@ module _ (s own opens nexts first behind class same own-kin kin : List ℕ) (w :
 
   module _ (X : Setting s own opens nexts first behind class same own-kin kin) (asked : (inTable (scriptOf s .types) w ≡ true) × (isRoot s w ≡ true)) where
     pub own-asked : Asked O first behind 512
-    own-asked = record { high = omega arith; wired = X .mine .top; begins = X .mine .begins 512 refl }
+    own-asked = record { high = omega arith; wired = X .mine .top; begins = X .mine .begins }
 
     pub start-image : Image (λ a. scriptOf s .types + a) from first 512
     start-image = rw (own-from X 512 (omega arith)) (image-lift (scriptOf s .types) first 512)

@@ -10,7 +10,6 @@ use Rattle.meaning.specs.Tests.{inTable}
 use Rattle.meaning.specs.Sheet.{row3, scriptOf}
 use Rattle.meaning.specs.Reply.{done, Loads}
 use Rattle.meaning.specs.Theorems.Sound.Written.{loads-shapely}
-use Rattle.meaning.specs.Laws.Shaped.{few-types}
 use Rattle.meaning.specs.Laws.Bools.{and-left, not-both}
 use Rattle.sheet.specs.declared.Layout.{Layout}
 use Rattle.sheet.specs.Laid.{Laid}
@@ -18,12 +17,12 @@ use Rattle.bits.specs.Sets.{inSet, LowestBoth}
 use Rattle.places.specs.Tables.{clear-zeros}
 use Rattle.roots.specs.Roots.{isRoot}
 use Rattle.written.specs.Writing.{ownRow}
-use Rattle.heads.specs.Classes.{Classes}
-use Rattle.points.specs.Points.{SheetPoints, OwnPoints}
+use Rattle.points.specs.Points.{OwnPoints}
 use Rattle.kin.specs.Kin.{Kins}
 use Rattle.pairs.specs.Queue.{Queue, Taken}
 use Rattle.pairs.specs.Meet.{Facing, Outcome}
 use Rattle.reach.specs.Reach.{Tabled, Like, Walked}
+use Rattle.tables.specs.Lent.{Lent}
 use Rattle.inrow.specs.Matched.{Standing, Setting, own-tabled, sheet-tabled}
 use Rattle.inrow.specs.Run.{Run, start-facing, start-clash, start-like, start-lost, start-run, round-facing, round-clash, round-like, round-lost, round-run}
 use Rattle.inrow.specs.Lies.{Lies, lies-within, lies-not}
@@ -42,10 +41,6 @@ queue-none = record {
 -- ---- the sheet's table by its layout
 
 module _ {s : List ℕ} {l : Layout} (L : Laid s l) where
-  pub laid-kins : {class kin : List ℕ} → Kins (row3 s (l .«types_at») (l .types)) (l .types) s class kin → Kins (scriptOf s .typeRow) (scriptOf s .types) s class kin
-  unfolding scriptOf
-  laid-kins K = rw (L .types-at, L .types) at K
-
   pub laid-tabled : {opens nexts kin same : List ℕ} → Tabled (scriptOf s .typeRow) opens nexts kin s opens nexts same → Tabled (row3 s (l .«types_at») (l .types)) opens nexts kin s opens nexts same
   unfolding scriptOf
   laid-tabled t = rw (L .types-at, L .types) t
@@ -142,11 +137,7 @@ module _ {s own opens nexts first behind same own-kin kin : List ℕ} {w : ℕ} 
 
 -- ---- the tables
 
-pub set-up : {s own opens nexts first behind class same own-kin kin : List ℕ} {l : Layout} → Loads s done → Laid s l → Standing s own → OwnPoints own first behind → SheetPoints s opens nexts → Classes s class same
-    → Kins (ownRow own) 512 s class own-kin → Kins (row3 s (l .«types_at») (l .types)) (l .types) s class kin → (class : List ℕ) × Setting s own opens nexts first behind class same own-kin kin
-set-up {class = class} load L stands mine sheet classes own-kins kins =
-    (class, record { shape = loads-shapely load; standing = stands; sheet = sheet; mine = mine; classes = classes; own-kins = own-kins; kins = laid-kins L kins })
-
-pub few-rows : {s : List ℕ} {l : Layout} → Laid s l → Loads s done → l .types ≤ 512
-unfolding scriptOf
-few-rows {s} L load = omega (arith, L .types, few-types s (loads-shapely load))
+pub set-up : {s own opens nexts first behind class same own-kin kin : List ℕ} → Loads s done → Standing s own → OwnPoints own first behind → Lent s opens nexts class same kin
+    → Kins (ownRow own) 512 s class own-kin → (class : List ℕ) × Setting s own opens nexts first behind class same own-kin kin
+set-up {class = class} load stands mine lent own-kins =
+    (class, record { shape = loads-shapely load; standing = stands; sheet = lent .points; mine = mine; classes = lent .classes; own-kins = own-kins; kins = lent .kins })

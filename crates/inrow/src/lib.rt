@@ -9,9 +9,11 @@ ghost use Rattle.meaning.specs.Sheet.{scriptOf};
 ghost use Rattle.meaning.specs.Reply.{done, Loads};
 ghost use Rattle.sheet.specs.Laid.{Laid};
 ghost use Rattle.roots.specs.Roots.{isRoot};
+ghost use Rattle.written.specs.Writing.{Blank};
 ghost use Rattle.points.specs.Points.{OwnPoints};
 ghost use Rattle.pairs.specs.Queue.{Queue};
 ghost use Rattle.reach.specs.Reach.{Tabled, Like, Walked};
+ghost use Rattle.tables.specs.Lent.{Lent};
 ghost use Rattle.inrow.specs.Matched.{Standing, Setting};
 ghost use Rattle.inrow.specs.Lies.{Lies};
 ghost use Rattle.inrow.specs.Steps.{zeros, OwnWalked};
@@ -166,41 +168,30 @@ fn walks(
     true
 }
 
-// Whether the type at row 512 of `own`, whose points are given, lies within the sheet's type at row `w`.
+// Whether the type at row 512 of `own`, whose points are given and whose rows up to `low` are blank, lies within the sheet's type at row `w`, by the sheet's tables.
 pub fn in_row(
     s: &[u8],
     own: &[u8],
+    low: usize,
     own_first: &[u64; 4617],
     own_behind: &[u64; 4617],
     w: usize,
+    first: &[u64; 4617],
+    behind: &[u64; 4617],
+    class: &[u16; 1026],
+    same: &[u64; 4617],
+    kin: &[u16; 576],
 ) -> bool
     requires { ⌜ Loads (now s) done ⌝ }
-    requires { ⌜ Standing (now s) (now own) × OwnPoints (now own) (now «own_first») (now «own_behind») ⌝ }
+    requires { ⌜ Standing (now s) (now own) × Blank (now own) low × OwnPoints (now own) (now «own_first») (now «own_behind») ⌝ }
     requires { ⌜ (inTable (scriptOf (now s) .types) w ≡ true) × (isRoot (now s) w ≡ true) ⌝ }
+    requires { ⌜ Lent (now s) (now first) (now behind) (now class) (now same) (now kin) ⌝ }
     ensures { λ r. ⌜ Lies (now (s .entry)) (now (own .entry)) w r ⌝ }
 {
     let l = sheet::lay_out(s);
-    let mut first = [0u64; 4617];
-    let mut behind = [0u64; 4617];
-    let mut class = [0u16; 1026];
-    let mut same = [0u64; 4617];
     let mut own_kin = [0u16; 576];
-    let mut kin = [0u16; 576];
-    points::of_sheet(s, l, &mut first, &mut behind);
-    heads::classes(s, l, &mut class, &mut same);
-    kin::kins(s, l, own, 0, 512, &class, &mut own_kin);
-    kin::kins(s, l, s, l.types_at, l.types, &class, &mut kin);
+    kin::kins(s, l, own, 0, 512, low, class, &mut own_kin);
     walks(
-        s,
-        l,
-        own,
-        own_first,
-        own_behind,
-        &own_kin,
-        &first,
-        &behind,
-        &kin,
-        &same,
-        w,
+        s, l, own, own_first, own_behind, &own_kin, first, behind, kin, same, w,
     )
 }

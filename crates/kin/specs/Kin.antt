@@ -35,8 +35,9 @@ pub record Kins (row : ℕ → Cells) (n : ℕ) (s class kin : List ℕ) : Type 
   pub at : (i : ℕ) → 1 ≤ i → i ≤ n → getD kin i 0 ≡ kinNo s class (row i)
   pub none : (i : ℕ) → (i ≡ 0) ⊎ (n < i) → getD kin i 0 ≡ 0
 
-pub kins-none : (row : ℕ → Cells) (s class : List ℕ) → Kins row 0 s class (replicate 576 0)
-kins-none row s class = record { size = length-replicate {A = ℕ} 576 0; at = λ i l h. absurd (omega arith); none = λ i x. zeros 576 i }
+-- blank rows have none
+pub kins-low : (row : ℕ → Cells) (s class : List ℕ) (low : ℕ) → ((i : ℕ) → 1 ≤ i → i ≤ low → row i .kind ≡ 0) → Kins row low s class (replicate 576 0)
+kins-low row s class low k = record { size = length-replicate {A = ℕ} 576 0; at = λ i l h. zeros 576 i ∙ rw (k i l h); none = λ i x. zeros 576 i }
 
 pub kins-more : (row : ℕ → Cells) (s class kin : List ℕ) (i v : ℕ) → Kins row i s class kin → i < 512 → v ≡ kinNo s class (row (i + 1)) → Kins row (i + 1) s class (set kin (i + 1) v)
 kins-more row s class kin i v k l e = record {

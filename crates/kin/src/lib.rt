@@ -2,7 +2,7 @@
 use sheet::Layout;
 use sheet::Row;
 ghost use mathlib.Core.Path.{_≡_};
-ghost use Prim.Native.Nat.{_≤_};
+ghost use Prim.Native.Nat.{ℕ, _≤_};
 ghost use lib.ListN.{replicate};
 ghost use Rattle.meaning.specs.Sheet.{row3};
 ghost use Rattle.sheet.specs.Laid.{Laid, cellsOf};
@@ -36,22 +36,24 @@ fn kin_of(s: &[u8], l: Layout, c: Row, class: &[u16; 1026]) -> u16
     0
 }
 
-// That of each place of a table.
+// That of each place of a table. The rows up to `low` are blank: no places, and not looked at.
 pub fn kins(
     s: &[u8],
     l: Layout,
     x: &[u8],
     at: usize,
     n: usize,
+    low: usize,
     class: &[u16; 1026],
     kin: &mut [u16; 576],
 )
     requires { ⌜ Laid (now s) l ⌝ }
     requires { ⌜ Lies (now x) at 3 n × (n ≤ 512) ⌝ }
+    requires { ⌜ (low ≤ n) × ((i : ℕ) → 1 ≤ i → i ≤ low → row3 (now x) at n i .kind ≡ 0) ⌝ }
     requires { ⌜ now kin ≡ replicate 576 0 ⌝ }
     ensures { λ _. ⌜ Kins (row3 (now (x .entry)) at n) n (now (s .entry)) (now (class .entry)) (now (kin .exit)) ⌝ }
 {
-    let mut i = 0;
+    let mut i = low;
     while i < n {
         kin[i + 1] = kin_of(s, l, sheet::row_of_three(x, at, n, i + 1), class);
         i += 1;

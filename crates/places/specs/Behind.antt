@@ -4,7 +4,7 @@ use mathlib.Core.Path.{_≡_, refl, sym, _∙_}
 use mathlib.Core.Bool.{Bool, true, false, _&&_, _||_}
 use mathlib.Core.List.{List}
 use mathlib.Core.Logic.{_⊎_, inl, inr}
-use native.Mathlib.Decide.{ℕ-discrete}
+use native.Mathlib.Decide.{ℕ-discrete, decLe}
 use native.Mathlib.Omega.{arith}
 use lib.Dec.{eqb, ltb}
 use borrow.Author.Tests.{lt-ltb, ltb-true, ltb-false, ne-eqb}
@@ -208,7 +208,13 @@ module _ {row : ℕ → Cells} {n : ℕ} (R : Rows row n) (root : List ℕ) (top
 
   -- ---- the sets are wired
 
-  module _ {t : List ℕ} (f : Falling row root t top 0) where
+  -- the loop is left at row m, with nothing but blank rows below
+  module _ {t : List ℕ} {m : ℕ} (f : Falling row root t top m) (blank : (r : ℕ) → 1 ≤ r → r ≤ m → row r .kind ≡ 0) where
+    -- no place is in a blank row
+    blank-wired : (r : ℕ) → row r .kind ≡ 0 → (k : Set) → Wired (setOf t) (rowModel row r) k
+    unfolding modelForm Wired
+    blank-wired r e k = rw (model-row R r) (rw e tt)
+
     -- past the room of a set there is nothing
     wide : (p : ℕ) (g : Set) → ((b : ℕ) → b < 576 → inSet t p b ≡ g b) → ((b : ℕ) → 576 ≤ b → g b ≡ false) → (b : ℕ) → setOf t p b ≡ g b
     wide p g h n b = elim (either (ltb b 576)) [ inl z ↦ rw z (h b (ltb-true b 576 z)) | inr z ↦ rw z (sym (n b (ltb-false b 576 z))) ]
@@ -225,7 +231,10 @@ module _ {row : ℕ → Cells} {n : ℕ} (R : Rows row n) (root : List ℕ) (top
     wired-by : (n r : ℕ) → r ≤ n → 1 ≤ r → r ≤ top → (k : Set) → ((b : ℕ) → setOf t r b ≡ k b) → Wired (setOf t) (rowModel row r) k
     unfolding Down modelForm Wired
     wired-by zero r l p q k h = absurd (omega arith)
-    wired-by (suc n) r l p q k h = rw (model-row R r) (go (view (row r)) (f .down r p q) (λ w x. wired-by n w (omega (arith, x .lower)) (x .low) (omega (arith, x .lower))))
+    wired-by (suc n) r l p q k h = elim (decLe r m) [
+      | yes z ↦ blank-wired r (blank r p z) k
+      | no z ↦ rw (model-row R r) (go (view (row r)) (f .down r (omega arith) q) (λ w x. wired-by n w (omega (arith, x .lower)) (x .low) (omega (arith, x .lower))))
+    ]
       where
         go : {u : TypeRow} → View (row r) u → Down row t u r → ((w : ℕ) → Part r w → (k : Set) → ((b : ℕ) → setOf t w b ≡ k b) → Wired (setOf t) (rowModel row w) k) → Wired (setOf t) (modelForm u r (rowModel row)) k
         go v-none d again = tt
@@ -253,11 +262,12 @@ module _ {row : ℕ → Cells} {n : ℕ} (R : Rows row n) (root : List ℕ) (top
         go (v-name c) d again = (p, h)
 
     pub wires : Wires row root t top
-    wires = record { wired = λ r p q z. wired-by r r (omega arith) p q ends (λ b. wide r (λ b. eqb 0 b) (f .ended r (omega arith) q z) (λ b l. ends-far b l) b) }
+    wires = record {
+      wired = λ r p q z. elim (decLe r m) [
+        | yes y ↦ blank-wired r (blank r p y) ends
+        | no y ↦ wired-by r r (omega arith) p q ends (λ b. wide r (λ b. eqb 0 b) (f .ended r (omega arith) q z) (λ b l. ends-far b l) b)
+      ];
+    }
       where
         ends-far : (b : ℕ) → 576 ≤ b → eqb 0 b ≡ false
         ends-far b l = ne-eqb 0 b (λ z. omega arith)
-
-  -- the loop is left at row 0
-  pub wires-by : {t : List ℕ} {i : ℕ} → i ≡ 0 → Falling row root t top i → Wires row root t top
-  wires-by z f = wires (rw z at f)

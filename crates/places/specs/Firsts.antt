@@ -1,10 +1,11 @@
 -- Row by row from below: whether a row may be empty and what may stand first, kind by kind.
-use Prim.Native.Nat.{ℕ, _+_, _≤_, _<_}
+use Prim.Native.Nat.{ℕ, zero, suc, _+_, _≤_, _<_}
 use mathlib.Core.Path.{_≡_, refl, sym, _∙_, ap}
 use mathlib.Core.Bool.{true, false, _&&_, _||_}
 use mathlib.Core.List.{List}
 use mathlib.Core.Logic.{_⊎_, inl, inr}
 use native.Mathlib.Decide.{ℕ-discrete}
+use native.Mathlib.Numerals.{add-one}
 use native.Mathlib.Omega.{arith}
 use lib.Dec.{eqb, ltb}
 use lib.ListN.{length, set, length-set}
@@ -161,17 +162,24 @@ module _ {row : ℕ → Cells} {n : ℕ} (R : Rows row n) where
 
 -- ---- where the loop begins, goes on and ends
 
-pub nulls-none : (row : ℕ → Cells) (null : List ℕ) → length null ≡ 513 → Nulls row null 1
-nulls-none row null l = record { size = l; at = λ j p q. absurd (omega arith) }
+-- a blank row may be empty, and nothing stands first at it
+module _ {row : ℕ → Cells} {n : ℕ} (R : Rows row n) where
+  blank-null : (i : ℕ) → row i .kind ≡ 0 → true ≡ nullable (rowModel row i)
+  blank-null i k = other-null R i (row i) refl (λ z. omega arith) (λ z. omega arith) (λ z. omega arith) (λ z. omega arith) (λ z. omega arith) (λ z. omega arith)
+
+  pub nulls-low : (null : List ℕ) (low : ℕ) → length null ≡ 513 → ((i : ℕ) → 1 ≤ i → i ≤ low → (row i .kind ≡ 0) × (flag null i ≡ true)) → Nulls row null (low + 1)
+  nulls-low null low l h = record { size = l; at = λ j p q. (let z = h j p (omega arith) in z .1 ∙ blank-null j (z .0)) }
+
+  pub firsts-low : (t : List ℕ) → Clear t → (low : ℕ) → ((i : ℕ) → 1 ≤ i → i ≤ low → row i .kind ≡ 0) → Firsts row t (low + 1)
+  firsts-low t c zero h = record { size = c .size; at = λ j p q. absurd (omega arith); none = λ j p b l. c .none j b l }
+  firsts-low t c (suc k) h = let f = rw (add-one k) at (firsts-low t c k (λ i p q. h i p (omega arith))) in let z = h (suc k) (omega arith) (omega arith) in
+      other-first R (suc k) (row (suc k)) refl f (λ y. omega arith) (λ y. omega arith) (λ y. omega arith) (λ y. omega arith) (λ y. omega arith) (λ y. omega arith) (λ y. omega arith)
 
 pub nulls-more : (row : ℕ → Cells) (null : List ℕ) (i v : ℕ) → Nulls row null i → i < 513 → eqb v 1 ≡ nullable (rowModel row i) → Nulls row (set null i v) (i + 1)
 nulls-more row null i v n l e = record {
   size = length-set null i v ∙ n .size;
   at = λ j p q. elim (ℕ-discrete j i) [ yes d ↦ rw d (flag-set null i v (omega (arith, n .size)) ∙ e) | no d ↦ flag-kept null i v j d ∙ n .at j p (omega arith) ];
 }
-
-pub firsts-none : (row : ℕ → Cells) (t : List ℕ) → Clear t → Firsts row t 1
-firsts-none row t c = record { size = c .size; at = λ j p q. absurd (omega arith); none = λ j p b l. c .none j b l }
 
 pub tables : {row : ℕ → Cells} {n : ℕ} → Rows row n → {null t : List ℕ} {i : ℕ} → n < i → Nulls row null i → Firsts row t i → Tables row n null t
 tables {row} {n} R {null} {t} {i} h N f = record {

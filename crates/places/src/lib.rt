@@ -1,8 +1,8 @@
 // The places of type rows: which rows may be empty, what may stand first at each, and what may stand next behind each. End is place 0.
-// A table of `n` type rows is lent as bytes and the word `at` at which it begins: a sheet's own, or a type written out.
+// A table of `n` type rows is lent as bytes and the word `at` at which it begins: a sheet's own, or a type written out. The rows up to `low` are blank and are not looked at.
 ghost use mathlib.Core.Path.{_≡_};
 ghost use mathlib.Core.Bool.{true, false};
-ghost use Prim.Native.Nat.{_+_, _<_, _≤_};
+ghost use Prim.Native.Nat.{ℕ, _+_, _<_, _≤_};
 ghost use lib.ListN.{length};
 ghost use Rattle.meaning.specs.Sheet.{row3};
 ghost use Rattle.meaning.specs.Places.{nullable};
@@ -71,15 +71,23 @@ fn begin(s: &[u8], at: usize, n: usize, i: usize, null: &[u8; 513], first: &mut 
     }
 }
 
-// Both tables, row by row from below.
-pub fn firsts(s: &[u8], at: usize, n: usize, null: &mut [u8; 513], first: &mut [u64; 4617])
+// Both tables, row by row from below: from row `low` + 1, since the rows up to there are blank, flagged already as what may be empty.
+pub fn firsts(
+    s: &[u8],
+    at: usize,
+    n: usize,
+    low: usize,
+    null: &mut [u8; 513],
+    first: &mut [u64; 4617],
+)
     requires { ⌜ Rows (row3 (now s) at n) n ⌝ }
     requires { ⌜ Lies (now s) at 3 n ⌝ }
+    requires { ⌜ (low ≤ n) × ((i : ℕ) → 1 ≤ i → i ≤ low → (row3 (now s) at n i .kind ≡ 0) × (flag (now null) i ≡ true)) ⌝ }
     requires { ⌜ length (now null) ≡ 513 ⌝ }
     requires { ⌜ Clear (now first) ⌝ }
     ensures { λ _. ⌜ Tables (row3 (now (s .entry)) at n) n (now (null .exit)) (now (first .exit)) ⌝ }
 {
-    let mut i = 1;
+    let mut i = low + 1;
     while i <= n {
         begin(s, at, n, i, null, first);
         null[i] = barren::digit(may_be_empty(s, at, n, i, null));
@@ -155,11 +163,12 @@ pub fn end(root: &[u8; 513], i: usize, behind: &mut [u64; 4617])
     }
 }
 
-// What stands behind each row, from row `top` down; End stands behind a root.
+// What stands behind each row, from row `top` down to the lowest that is not blank; End stands behind a root.
 pub fn behinds(
     s: &[u8],
     at: usize,
     n: usize,
+    low: usize,
     top: usize,
     root: &[u8; 513],
     null: &[u8; 513],
@@ -168,13 +177,13 @@ pub fn behinds(
 )
     requires { ⌜ Rows (row3 (now s) at n) n ⌝ }
     requires { ⌜ Lies (now s) at 3 n ⌝ }
-    requires { ⌜ top ≤ n ⌝ }
+    requires { ⌜ (top ≤ n) × ((i : ℕ) → 1 ≤ i → i ≤ low → row3 (now s) at n i .kind ≡ 0) ⌝ }
     requires { ⌜ Tables (row3 (now s) at n) n (now null) (now first) ⌝ }
     requires { ⌜ Free (row3 (now s) at n) (now root) top × Clear (now behind) ⌝ }
     ensures { λ _. ⌜ Wires (row3 (now (s .entry)) at n) (now (root .entry)) (now (behind .exit)) top ⌝ }
 {
     let mut i = top;
-    while 0 < i {
+    while low < i {
         end(root, i, behind);
         fall(s, at, n, i, null, first, behind);
         i -= 1;

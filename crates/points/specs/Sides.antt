@@ -97,11 +97,10 @@ module _ (s : List ℕ) (e : shapely s ≡ true) where
       from-sheet : (r : ℕ) → inTable T r ≡ true → (b : ℕ) → foundFrom s opens first r b ≡ start (rowModel J r) b
       from-sheet r h b = rw (le-leb r T (table-high T r h), sheet-model r (table-high T r h)) (given .begins r h b)
 
-      from-own : (r : ℕ) → inTable 512 r ≡ true → (b : ℕ) → foundFrom s opens first (T + r) b ≡ start (rowModel J (T + r)) b
-      from-own r h b =
-          let l = table-low 512 r h in
+      from-own : (r : ℕ) → 1 ≤ r → ((b : ℕ) → setOf first r b ≡ start (rowModel (ownRow own) r) b) → (b : ℕ) → foundFrom s opens first (T + r) b ≡ start (rowModel J (T + r)) b
+      from-own r l h b =
           let z : T + r - T ≡ r = omega arith in
-          rw (lt-leb (T + r) T (omega arith), z, model-same s own e G W r l) (ap (λ k. lift T k b) (fun (mine .begins r h)) ∙ sym (up-start T (rowModel (ownRow own) r) (own-placed r) b))
+          rw (lt-leb (T + r) T (omega arith), z, model-same s own e G W r l) (ap (λ k. lift T k b) (fun h) ∙ sym (up-start T (rowModel (ownRow own) r) (own-placed r) b))
         where
           fun : {k m : Set} → ((b : ℕ) → k b ≡ m b) → k ≡ m
           fun h = fun-ext h
@@ -118,13 +117,13 @@ module _ (s : List ℕ) (e : shapely s ≡ true) where
       label-inner i k = elim (decLe i T) [
         | yes l ↦ (let k′ : S i .kind ≡ 4 = rw (sheet-row s own i l) at k in let c = sheet-content i k′ in rw (sheet-row s own i l) (wired-sheet (S i .q) (c .0) (c .1), from-sheet (S i .q) (c .0)))
         | no l ↦ (let z : T + (i - T) ≡ i = omega arith in let j = i - T in let r : J i ≡ moved T (ownRow own j) = rw z at (own-row s own j (omega arith)) in
-            let k′ : ownRow own j .kind ≡ 4 = rw r at k in let c = own-apart W .content j k′ in
-            rw (r, k′) (wired-own (ownRow own j .q) (table-low 512 (ownRow own j .q) c) (mine .contents j k′), from-own (ownRow own j .q) c))
+            let k′ : ownRow own j .kind ≡ 4 = rw r at k in let c = table-low 512 (ownRow own j .q) (own-apart W .content j k′) in
+            rw (r, k′) (wired-own (ownRow own j .q) c (mine .contents j k′), from-own (ownRow own j .q) c (mine .insides j k′)))
       ]
 
       pub found-kept : Kept J N (T + 512) (foundFrom s opens first (T + 512)) (foundInner s own opens first) (foundNext s nexts behind)
       found-kept = record {
-        begins = from-own 512 refl;
+        begins = from-own 512 (omega arith) (mine .begins);
         wired = wired-own 512 (omega arith) (mine .top);
         contents = λ i k. label-inner i k .0;
         insides = λ a k b. inside a (eqb (J a .kind) 8) k b;

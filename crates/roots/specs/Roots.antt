@@ -1,5 +1,5 @@
 -- Flags set by tests: each store adds a test, and a loop over a table adds `some` of its rows. All of them together say which rows are declared types or contents.
-use Prim.Native.Nat.{ℕ, _+_, _≤_, _<_}
+use Prim.Native.Nat.{ℕ, zero, suc, _+_, _≤_, _<_}
 use mathlib.Core.Path.{_≡_, refl, sym, _∙_, ap}
 use mathlib.Core.Bool.{Bool, true, false, _&&_, _||_}
 use mathlib.Core.List.{List}
@@ -77,6 +77,15 @@ held-root row y i = eqb (row i .kind) 4 && eqb (row i .q) y
 
 pub label-held : (row : ℕ → Cells) (i : ℕ) (c : Cells) → c ≡ row i → c .kind ≡ 4 → {old new : List ℕ} → Marked old new (λ y. eqb (c .q) y) → Marked old new (λ y. held-root row y i)
 label-held row i c r k m = marked-as (λ y. held-root row y i) (λ y. let k′ : row i .kind ≡ 4 = rw r at k in rw (r, k′)) m
+
+-- blank rows have no content
+pub none-held : (row : ℕ → Cells) (old : List ℕ) (low : ℕ) → ((i : ℕ) → 1 ≤ i → i ≤ low → row i .kind ≡ 0) → Marked old old (λ y. some (held-root row y) low)
+unfolding some
+none-held row old low h = marked-as (λ y. some (held-root row y) low) (λ y. sym (go y low h)) (marked-none old)
+  where
+    go : (y low : ℕ) → ((i : ℕ) → 1 ≤ i → i ≤ low → row i .kind ≡ 0) → some (held-root row y) low ≡ false
+    go y zero h = refl
+    go y (suc k) h = rw (go y k (λ i p q. h i p (omega arith)), h (suc k) (omega arith) (omega arith))
 
 pub other-held : (row : ℕ → Cells) (i : ℕ) (c : Cells) → c ≡ row i → (c .kind ≡ 4 → ⊥) → (old : List ℕ) → Marked old old (λ y. held-root row y i)
 other-held row i c r k old = marked-as (λ y. held-root row y i) (λ y. rw (ne-eqb (row i .kind) 4 (λ z. k (rw r z)))) (marked-none old)

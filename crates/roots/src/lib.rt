@@ -2,7 +2,7 @@
 use sheet::Layout;
 ghost use mathlib.Core.Path.{_≡_};
 ghost use mathlib.Core.Bool.{false};
-ghost use Prim.Native.Nat.{ℕ, _+_, _<_};
+ghost use Prim.Native.Nat.{ℕ, _+_, _<_, _≤_};
 ghost use lib.ListN.{length};
 ghost use lib.Dec.{eqb};
 ghost use Rattle.meaning.specs.Tests.{some};
@@ -72,12 +72,14 @@ fn content(s: &[u8], at: usize, n: usize, i: usize, root: &mut [u8; 513])
     }
 }
 
-pub fn content_roots(s: &[u8], at: usize, n: usize, root: &mut [u8; 513])
+// The contents of a table whose rows up to `low` are blank, and are not looked at.
+pub fn content_roots(s: &[u8], at: usize, n: usize, low: usize, root: &mut [u8; 513])
     requires { ⌜ Lies (now s) at 3 n ⌝ }
+    requires { ⌜ (low ≤ n) × ((i : ℕ) → 1 ≤ i → i ≤ low → row3 (now s) at n i .kind ≡ 0) ⌝ }
     requires { ⌜ length (now root) ≡ 513 ⌝ }
     ensures { λ _. ⌜ Marked (now (root .entry)) (now (root .exit)) (λ y. some (held-root (row3 (now (s .entry)) at n) y) n) ⌝ }
 {
-    let mut i = 0;
+    let mut i = low;
     while i < n {
         content(s, at, n, i + 1, root);
         i += 1;
@@ -95,5 +97,5 @@ pub fn roots(s: &[u8], l: Layout, root: &mut [u8; 513])
     mark(root, l.b);
     name_roots(s, l, root);
     procedure_roots(s, l, root);
-    content_roots(s, l.types_at, l.types, root);
+    content_roots(s, l.types_at, l.types, 0, root);
 }

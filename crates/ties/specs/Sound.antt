@@ -32,6 +32,7 @@ use Rattle.ties.specs.declared.Soundness.{Soundness}
 use Rattle.ties.specs.declared.Soundness.the-variants.{Done, Barren, Tie as Tying}
 use Rattle.heads.specs.Heads.{headNumber, place-head, head-place, heads-same}
 use Rattle.heads.specs.Apart.{Apart}
+use Rattle.heads.specs.Classes.{Classes}
 use Rattle.ties.specs.Points.{no-tie, PointTie, Least, AtStart, AtPlace, Upto}
 
 module _ (s : List ℕ) (e : shapely s ≡ true) where
@@ -176,6 +177,14 @@ module _ (s : List ℕ) (e : shapely s ≡ true) where
       rival = λ d l. not-tied (r .row) d (λ u. omega (arith, f .rival d u));
     }
 
+-- ---- the tables of a sheet
+
+pub record Made (s : List ℕ) (l : Layout) (null root begin behind′ class same : List ℕ) : Type 0 where
+  pub tables : Tables (row3 s (l .«types_at») (l .types)) (l .types) null begin
+  pub rooted : Rooted s root
+  pub wires : Wires (row3 s (l .«types_at») (l .types)) root behind′ (l .types)
+  pub classes : Classes s class same
+
 -- ---- the answer
 
 -- no two places are tied, or these two are the lowest
@@ -188,9 +197,9 @@ module _ {s : List ℕ} {l : Layout} (L : Laid s l) (e : shapely s ≡ true) whe
   unfolding scriptOf
   free-rows {root} R = laid-free L root (l .types) (λ i j p q x. rooted-free s e R i j p (omega (arith, L .types)) x)
 
-  pub says-tie : {null begin behind′ root : List ℕ} → Tables (row3 s (l .«types_at») (l .types)) (l .types) null begin → Rooted s root → Wires (row3 s (l .«types_at») (l .types)) root behind′ (l .types) → {r : Tied} → Least (Upto s root begin behind′ (scriptOf s .types)) r → SaysTie s r
+  pub says-tie : {null begin behind′ root class same : List ℕ} → Made s l null root begin behind′ class same → {r : Tied} → Least (Upto s root begin behind′ (scriptOf s .types)) r → SaysTie s r
   unfolding scriptOf
-  says-tie T R W f = let T′ = laid-tables L T in let W′ = rw (L .types) at (laid-wires L W) in record { none = untied s e T′ R W′ f; lowest = lowest-tie s e T′ R W′ f }
+  says-tie M f = let T = laid-tables L (M .tables) in let W = rw (L .types) at (laid-wires L (M .wires)) in record { none = untied s e T (M .rooted) W f; lowest = lowest-tie s e T (M .rooted) W f }
 
 -- where no two places have one head
 pub says-apart : {s : List ℕ} → shapely s ≡ true → Apart s → SaysTie s no-tie

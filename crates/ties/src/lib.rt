@@ -1,15 +1,18 @@
 // Ties, and whether a well shaped sheet is sound: refusals 3 and 4. Ones count the places of a head at a point; trailing zeros find the lowest and its lowest rival.
 use sheet::Layout;
 ghost use mathlib.Core.Path.{_≡_};
-ghost use mathlib.Core.Bool.{true};
-ghost use Prim.Native.Nat.{_+_, _<_, _≤_};
+ghost use mathlib.Core.Bool.{true, false};
+ghost use mathlib.Core.List.{List};
+ghost use Prim.Native.Nat.{ℕ, _+_, _<_, _≤_};
+ghost use lib.ListN.{length, replicate};
 ghost use Rattle.meaning.specs.Sheet.{scriptOf};
 ghost use Rattle.meaning.specs.Shape.{shapely};
 ghost use Rattle.sheet.specs.Laid.{Laid};
-ghost use Rattle.bits.specs.Sets.{inSet};
+ghost use Rattle.bits.specs.Sets.{inSet, Clear};
+ghost use Rattle.barren.specs.Flags.{flag};
 ghost use Rattle.places.specs.Tables.{setOf};
 ghost use Rattle.heads.specs.Classes.{Classes};
-ghost use Rattle.ties.specs.Sound.{SaysTie, soundOf};
+ghost use Rattle.ties.specs.Sound.{Made, SaysTie, soundOf};
 ghost use Rattle.meaning.specs.Reply.{Loads};
 ghost use Rattle.ties.specs.Points.{PointTie, OfPlace, Least, Lower, AtStart, AtPlace, Upto};
 
@@ -165,7 +168,53 @@ fn tie(
     best
 }
 
-// The lowest tie of a sheet by its tables: these, then all points.
+// Makes the tables of a sheet: which type rows may be empty, which are models, what may stand first at each and behind each, and the places of each head.
+pub fn make(
+    s: &[u8],
+    l: Layout,
+    null: &mut [u8; 513],
+    root: &mut [u8; 513],
+    first: &mut [u64; 4617],
+    behind: &mut [u64; 4617],
+    class: &mut [u16; 1026],
+    same: &mut [u64; 4617],
+)
+    requires { ⌜ shapely (now s) ≡ true ⌝ }
+    requires { ⌜ Laid (now s) l ⌝ }
+    requires { ⌜ length (now null) ≡ 513 ⌝ }
+    requires { ⌜ (length (now root) ≡ 513) × ((y : ℕ) → flag (now root) y ≡ false) ⌝ }
+    requires { ⌜ Clear (now first) × Clear (now behind) × Clear (now same) ⌝ }
+    requires { ⌜ now class ≡ replicate 1026 0 ⌝ }
+    ensures { λ _. ⌜ Made (now (s .entry)) l (now (null .exit)) (now (root .exit)) (now (first .exit)) (now (behind .exit)) (now (class .exit)) (now (same .exit)) ⌝ }
+{
+    places::firsts(s, l.types_at, l.types, 0, null, first);
+    roots::roots(s, l, root);
+    places::behinds(s, l.types_at, l.types, 0, l.types, root, null, first, behind);
+    heads::classes(s, l, class, same);
+}
+
+// The lowest tie of a sheet by its tables. Where no two places have one head there is none, and no point is looked at.
+pub fn tie_in(
+    s: &[u8],
+    l: Layout,
+    root: &[u8; 513],
+    first: &[u64; 4617],
+    behind: &[u64; 4617],
+    class: &[u16; 1026],
+    same: &[u64; 4617],
+) -> Tied
+    requires { ⌜ shapely (now s) ≡ true ⌝ }
+    requires { ⌜ Laid (now s) l ⌝ }
+    requires { ⌜ ((null : List ℕ) × Made (now s) l null (now root) (now first) (now behind) (now class) (now same)) ⌝ }
+    ensures { λ r. ⌜ SaysTie (now (s .entry)) r ⌝ }
+{
+    if heads::apart(s, l) {
+        return Tied { row: 0, rival: 0 };
+    }
+    tie(s, l, root, first, behind, class, same)
+}
+
+// The lowest tie of a sheet by tables of its own: these, then all points.
 fn by_tables(s: &[u8], l: Layout) -> Tied
     requires { ⌜ shapely (now s) ≡ true ⌝ }
     requires { ⌜ Laid (now s) l ⌝ }
@@ -177,19 +226,16 @@ fn by_tables(s: &[u8], l: Layout) -> Tied
     let mut behind = [0u64; 4617];
     let mut class = [0u16; 1026];
     let mut same = [0u64; 4617];
-    places::firsts(s, l.types_at, l.types, &mut null, &mut first);
-    roots::roots(s, l, &mut root);
-    places::behinds(
+    make(
         s,
-        l.types_at,
-        l.types,
-        l.types,
-        &root,
-        &null,
-        &first,
+        l,
+        &mut null,
+        &mut root,
+        &mut first,
         &mut behind,
+        &mut class,
+        &mut same,
     );
-    heads::classes(s, l, &mut class, &mut same);
     tie(s, l, &root, &first, &behind, &class, &same)
 }
 

@@ -32,7 +32,8 @@ use Rattle.within.specs.declared.Judgement.the-variants as judgement
 use Rattle.infer.specs.Infer.{asked, asked-after}
 use Rattle.infer.specs.Questions.{ask-wide, ask-outside, ask-holds}
 use Rattle.typing.specs.Typing.{row-goes}
-use Rattle.typing.specs.Calls.{arguments-go, Called, LiesGives, declared-is}
+use Rattle.within.specs.Short.{declared-is}
+use Rattle.typing.specs.Calls.{arguments-go, Called, LiesGives}
 
 -- ---- a question that gives a type
 

@@ -31,7 +31,8 @@ use Rattle.grown.specs.declared.Halt.{Halt}
 use Rattle.edit.specs.Edit.{fits}
 use Rattle.edit.proofs.Laws.{finds-none, finds-one, finds-two}
 use Rattle.typing.specs.Typing.{Checks, goes}
-use Rattle.typing.specs.Calls.{LiesGives, declared-is, Wanted, wanted-low, a-low, b-wanted, input-wanted, output-wanted, first-wanted, second-wanted}
+use Rattle.within.specs.Short.{declared-is}
+use Rattle.typing.specs.Calls.{LiesGives, Wanted, wanted-low, a-low, b-wanted, input-wanted, output-wanted, first-wanted, second-wanted}
 use Rattle.typing.specs.Bodies.{procedure-walk, main-walk, BodyGives, ProcedureGives}
 use Rattle.typing.proofs.Calling.{present-none, present-one, present-two}
 

@@ -8,14 +8,13 @@ use lib.Dec.{eqb}
 use borrow.Author.Tests.{eq-eqb, ne-eqb, leb-true}
 use Rattle.meaning.specs.Tests.{inTable, some}
 use Rattle.meaning.specs.Sheet.{Cells, Procedure, scriptOf, sheetOf, statements-of}
-use Rattle.meaning.specs.Kinds.{typeAt, typeForm, present}
+use Rattle.meaning.specs.Kinds.{present}
 use Rattle.meaning.specs.Types.{Ty, declared}
 use Rattle.meaning.specs.Places.{is-content}
 use Rattle.meaning.specs.Shape.{unused, query, argument, wordOk, wordsOk, statementUses, procedure-ok, shapely}
 use Rattle.meaning.specs.Run.{arguments}
 use Rattle.meaning.specs.Walk.{of-statement, ret, ask, _>>=_}
 use Rattle.meaning.specs.Check.{Asking, nine, is-in, infer, declaration, ask-all}
-use Rattle.meaning.specs.Laws.Apart.{tyAt-same}
 use Rattle.meaning.specs.Laws.Bools.{or-left, or-right, and-left, and-right}
 use Rattle.meaning.specs.Laws.Tests.{in-table, table-low, table-high, some-at}
 use Rattle.meaning.specs.Laws.Shaped.{cells, roots, roots-pass, procedures-pass, procedures-say, statements-pass, statements-say}
@@ -24,7 +23,7 @@ use Rattle.sheet.specs.declared.Row.{Row}
 use Rattle.sheet.specs.declared.Procedure as sheet
 use Rattle.roots.specs.Roots.{isRoot}
 use Rattle.walk.specs.declared.Scope.{Scope}
-use Rattle.grown.specs.Grown.{tyIn, formIn, Grows, in-sheet}
+use Rattle.grown.specs.Grown.{tyIn}
 use Rattle.grown.specs.Finds.{Finds, typesOf}
 use Rattle.grown.specs.declared.Found.{Found}
 
@@ -52,10 +51,6 @@ pub record Called (s : List ℕ) (c q r : ℕ) : Type 0 where
   pub there : inTable (scriptOf s .procedures) c ≡ true
   pub first : eqb q 0 ≡ eqb (scriptOf s .procedureRow c .first) 0
   pub second : eqb r 0 ≡ eqb (scriptOf s .procedureRow c .second) 0
-
--- a row of the sheet keeps its declared type
-pub declared-is : {s work : List ℕ} {n : ℕ} → Grows s work n → (r : ℕ) → r ≤ scriptOf s .types → tyIn s work n r ≡ declared (scriptOf s) r
-declared-is {s} {work} {n} g r h = tyAt-same (formIn s work n) (typeAt (scriptOf s)) (scriptOf s .types) (λ i j. g .low i) (λ i j. ap typeForm (in-sheet s work n i j)) r h
 
 module _ (s : List ℕ) (e : shapely s ≡ true) where
   -- A and B

@@ -22,6 +22,7 @@ ghost use Rattle.meaning.specs.Shape.{shapely};
 ghost use Rattle.meaning.specs.Check.{check-walk};
 ghost use Rattle.grown.specs.Finds.{top, Room, Finds};
 ghost use Rattle.edit.specs.Edit.{fits, fits-row};
+ghost use Rattle.tables.specs.Lent.{Lent};
 ghost use Rattle.infer.specs.Infer.{Asks};
 ghost use Rattle.typing.specs.Typing.{Checks, Gives, RowGives, EitherGives, PartsGive, RenameGives, Tested};
 ghost use Rattle.typing.specs.Calls.{Called, Wanted, ArgumentsGive, LiesGives};
@@ -118,6 +119,11 @@ fn judge(s: &[u8], work: &[u8], p: usize, q: usize, focus: usize) -> Fate
 fn lies(
     s: &[u8],
     work: &[u8],
+    first: &[u64; 4617],
+    behind: &[u64; 4617],
+    class: &[u16; 1026],
+    same: &[u64; 4617],
+    kin: &[u16; 576],
     used: usize,
     row: usize,
     flag: usize,
@@ -128,9 +134,10 @@ fn lies(
 ) -> Found
     requires { ⌜ (Loads (now s) done) × (Room (now s) (now work) used (purse .left)) × (found ≤ top (now s) + used) ×
         (given ≤ top (now s) + used) × (Wanted (now s) wanted) ⌝ }
+    requires { ⌜ Lent (now s) (now first) (now behind) (now class) (now same) (now kin) ⌝ }
     ensures { λ a. ⌜ LiesGives (now (s .entry)) (now (work .entry)) used row flag found wanted given (purse .left) a ⌝ }
 {
-    match within::declared(s, work, used, found, wanted) {
+    match within::declared(s, work, used, found, wanted, first, behind, class, same, kin) {
         Judgement::Wide => Found::Not(Halt::Wide(row, flag, purse)),
         Judgement::Fails => Found::Not(Halt::Outside(row, flag, purse)),
         Judgement::Holds => Found::Done {
@@ -145,6 +152,11 @@ fn lies(
 fn arguments(
     s: &[u8],
     work: &mut [u8],
+    first: &[u64; 4617],
+    behind: &[u64; 4617],
+    class: &[u16; 1026],
+    same: &[u64; 4617],
+    kin: &[u16; 576],
     scope: Scope,
     used: usize,
     at: usize,
@@ -156,6 +168,7 @@ fn arguments(
 ) -> Found
     requires { ⌜ (Asks (now s) (now work) scope used (purse .left) (fits-row (now s) depth scope (Statement.call c (present q r)))) ×
         (Called (now s) c q r) ⌝ }
+    requires { ⌜ Lent (now s) (now first) (now behind) (now class) (now same) (now kin) ⌝ }
     ensures { λ a. ⌜ ArgumentsGive (now (s .entry)) (now (work .entry)) (now (work .exit)) scope used depth at c q r (purse .left) a ⌝ }
 {
     let one = sheet::procedure_at(s, c);
@@ -174,7 +187,7 @@ fn arguments(
             purse: paid,
         } => {
             if r == 0 {
-                return lies(s, work, n, at, 2, x, one.first, one.output, paid);
+                return lies(s, work, first, behind, class, same, kin, n, at, 2, x, one.first, one.output, paid);
             }
             match query(s, work, scope, n, r, depth, paid) {
                 Found::Not(why) => Found::Not(why),
@@ -182,10 +195,10 @@ fn arguments(
                     root: y,
                     used: m,
                     purse: rest,
-                } => match within::declared(s, work, m, x, one.first) {
+                } => match within::declared(s, work, m, x, one.first, first, behind, class, same, kin) {
                     Judgement::Wide => Found::Not(Halt::Wide(at, 2, rest)),
                     Judgement::Fails => Found::Not(Halt::Outside(at, 2, rest)),
-                    Judgement::Holds => lies(s, work, m, at, 2, y, one.second, one.output, rest),
+                    Judgement::Holds => lies(s, work, first, behind, class, same, kin, m, at, 2, y, one.second, one.output, rest),
                 },
             }
         }
@@ -196,6 +209,11 @@ fn arguments(
 fn call(
     s: &[u8],
     work: &mut [u8],
+    first: &[u64; 4617],
+    behind: &[u64; 4617],
+    class: &[u16; 1026],
+    same: &[u64; 4617],
+    kin: &[u16; 576],
     scope: Scope,
     used: usize,
     at: usize,
@@ -208,13 +226,14 @@ fn call(
 ) -> Found
     requires { ⌜ (Checks (now s) (now work) scope used focus (purse .left) (fits-row (now s) depth scope
         (Statement.call c (present q r)))) × (Called (now s) c q r) ⌝ }
+    requires { ⌜ Lent (now s) (now first) (now behind) (now class) (now same) (now kin) ⌝ }
     ensures { λ a. ⌜ RowGives (now (s .entry)) (now (work .entry)) (now (work .exit)) scope used depth at
         (Statement.call c (present q r)) focus (purse .left) a ⌝ }
 {
-    match within::declared(s, work, used, focus, sheet::procedure_at(s, c).input) {
+    match within::declared(s, work, used, focus, sheet::procedure_at(s, c).input, first, behind, class, same, kin) {
         Judgement::Wide => Found::Not(Halt::Wide(at, 2, purse)),
         Judgement::Fails => Found::Not(Halt::Outside(at, 2, purse)),
-        Judgement::Holds => arguments(s, work, scope, used, at, c, q, r, depth, purse),
+        Judgement::Holds => arguments(s, work, first, behind, class, same, kin, scope, used, at, c, q, r, depth, purse),
     }
 }
 
@@ -222,6 +241,11 @@ fn call(
 pub fn statement(
     s: &[u8],
     work: &mut [u8],
+    first: &[u64; 4617],
+    behind: &[u64; 4617],
+    class: &[u16; 1026],
+    same: &[u64; 4617],
+    kin: &[u16; 576],
     scope: Scope,
     used: usize,
     at: usize,
@@ -230,6 +254,7 @@ pub fn statement(
     purse: Purse,
 ) -> Found
     requires { ⌜ Checks (now s) (now work) scope used focus (purse .left) (fits (now s) depth scope at) ⌝ }
+    requires { ⌜ Lent (now s) (now first) (now behind) (now class) (now same) (now kin) ⌝ }
     ensures { λ a. ⌜ Gives (now (s .entry)) (now (work .entry)) (now (work .exit)) scope used depth at focus (purse .left) a ⌝ }
 {
     if depth == 0 {
@@ -247,19 +272,19 @@ pub fn statement(
                     used,
                     purse: rest,
                 },
-                2 => pair(s, work, scope, used, c.p, c.q, focus, below, rest),
-                3 => choose(s, work, scope, used, at, c.p, c.q, c.r, focus, below, rest),
+                2 => pair(s, work, first, behind, class, same, kin, scope, used, c.p, c.q, focus, below, rest),
+                3 => choose(s, work, first, behind, class, same, kin, scope, used, at, c.p, c.q, c.r, focus, below, rest),
                 4 => insert(s, work, scope, used, at, c.p, focus, below, rest),
                 5 => write(s, work, used, 1, 0, 0, rest),
                 6 => rename(s, work, used, at, c.p, focus, rest),
-                7 => let_in(s, work, scope, used, c.p, c.q, focus, below, rest),
-                8 => snapshot(s, work, scope, used, c.p, focus, below, rest),
-                9 => test(s, work, scope, used, at, c.p, c.q, c.r, focus, below, rest),
-                10 => children(s, work, scope, used, at, c.p, focus, below, rest),
-                11 => left(s, work, scope, used, c.p, focus, below, rest),
-                12 => right(s, work, scope, used, c.p, focus, below, rest),
-                13 => parts(s, work, scope, used, c.p, focus, below, rest),
-                14 => call(s, work, scope, used, at, c.p, c.q, c.r, focus, below, rest),
+                7 => let_in(s, work, first, behind, class, same, kin, scope, used, c.p, c.q, focus, below, rest),
+                8 => snapshot(s, work, first, behind, class, same, kin, scope, used, c.p, focus, below, rest),
+                9 => test(s, work, first, behind, class, same, kin, scope, used, at, c.p, c.q, c.r, focus, below, rest),
+                10 => children(s, work, first, behind, class, same, kin, scope, used, at, c.p, focus, below, rest),
+                11 => left(s, work, first, behind, class, same, kin, scope, used, c.p, focus, below, rest),
+                12 => right(s, work, first, behind, class, same, kin, scope, used, c.p, focus, below, rest),
+                13 => parts(s, work, first, behind, class, same, kin, scope, used, c.p, focus, below, rest),
+                14 => call(s, work, first, behind, class, same, kin, scope, used, at, c.p, c.q, c.r, focus, below, rest),
                 0 | 15..=65535 => Found::Not(Halt::Mismatch(at, 2, rest)),
             }
         }
@@ -270,6 +295,11 @@ pub fn statement(
 fn pair(
     s: &[u8],
     work: &mut [u8],
+    first: &[u64; 4617],
+    behind: &[u64; 4617],
+    class: &[u16; 1026],
+    same: &[u64; 4617],
+    kin: &[u16; 576],
     scope: Scope,
     used: usize,
     p: usize,
@@ -279,16 +309,17 @@ fn pair(
     purse: Purse,
 ) -> Found
     requires { ⌜ Checks (now s) (now work) scope used focus (purse .left) (fits-row (now s) depth scope (Statement.then p q)) ⌝ }
+    requires { ⌜ Lent (now s) (now first) (now behind) (now class) (now same) (now kin) ⌝ }
     ensures { λ a. ⌜ RowGives (now (s .entry)) (now (work .entry)) (now (work .exit)) scope used depth 0
         (Statement.then p q) focus (purse .left) a ⌝ }
 {
-    match statement(s, work, scope, used, p, focus, depth, purse) {
+    match statement(s, work, first, behind, class, same, kin, scope, used, p, focus, depth, purse) {
         Found::Not(why) => Found::Not(why),
         Found::Done {
             root,
             used: n,
             purse: rest,
-        } => statement(s, work, scope, n, q, root, depth, rest),
+        } => statement(s, work, first, behind, class, same, kin, scope, n, q, root, depth, rest),
     }
 }
 
@@ -296,6 +327,11 @@ fn pair(
 fn choose(
     s: &[u8],
     work: &mut [u8],
+    first: &[u64; 4617],
+    behind: &[u64; 4617],
+    class: &[u16; 1026],
+    same: &[u64; 4617],
+    kin: &[u16; 576],
     scope: Scope,
     used: usize,
     at: usize,
@@ -307,6 +343,7 @@ fn choose(
     purse: Purse,
 ) -> Found
     requires { ⌜ Checks (now s) (now work) scope used focus (purse .left) (fits-row (now s) depth scope (Statement.if p q r)) ⌝ }
+    requires { ⌜ Lent (now s) (now first) (now behind) (now class) (now same) (now kin) ⌝ }
     ensures { λ a. ⌜ RowGives (now (s .entry)) (now (work .entry)) (now (work .exit)) scope used depth at
         (Statement.if p q r) focus (purse .left) a ⌝ }
 {
@@ -319,7 +356,7 @@ fn choose(
         } => match within::plain(s, work, n, root, 3) {
             Judgement::Wide => Found::Not(Halt::Wide(at, 2, rest)),
             Judgement::Fails => Found::Not(Halt::Mismatch(at, 2, rest)),
-            Judgement::Holds => either(s, work, scope, n, q, r, focus, depth, rest),
+            Judgement::Holds => either(s, work, first, behind, class, same, kin, scope, n, q, r, focus, depth, rest),
         },
     }
 }
@@ -328,6 +365,11 @@ fn choose(
 fn either(
     s: &[u8],
     work: &mut [u8],
+    first: &[u64; 4617],
+    behind: &[u64; 4617],
+    class: &[u16; 1026],
+    same: &[u64; 4617],
+    kin: &[u16; 576],
     scope: Scope,
     used: usize,
     q: usize,
@@ -337,15 +379,16 @@ fn either(
     purse: Purse,
 ) -> Found
     requires { ⌜ Checks (now s) (now work) scope used focus (purse .left) (fits-row (now s) depth scope (Statement.then q r)) ⌝ }
+    requires { ⌜ Lent (now s) (now first) (now behind) (now class) (now same) (now kin) ⌝ }
     ensures { λ a. ⌜ EitherGives (now (s .entry)) (now (work .entry)) (now (work .exit)) scope used depth q r focus (purse .left) a ⌝ }
 {
-    match statement(s, work, scope, used, q, focus, depth, purse) {
+    match statement(s, work, first, behind, class, same, kin, scope, used, q, focus, depth, purse) {
         Found::Not(why) => Found::Not(why),
         Found::Done {
             root: x,
             used: n,
             purse: left,
-        } => match statement(s, work, scope, n, r, focus, depth, left) {
+        } => match statement(s, work, first, behind, class, same, kin, scope, n, r, focus, depth, left) {
             Found::Not(why) => Found::Not(why),
             Found::Done {
                 root: y,
@@ -360,6 +403,11 @@ fn either(
 fn let_in(
     s: &[u8],
     work: &mut [u8],
+    first: &[u64; 4617],
+    behind: &[u64; 4617],
+    class: &[u16; 1026],
+    same: &[u64; 4617],
+    kin: &[u16; 576],
     scope: Scope,
     used: usize,
     p: usize,
@@ -369,6 +417,7 @@ fn let_in(
     purse: Purse,
 ) -> Found
     requires { ⌜ Checks (now s) (now work) scope used focus (purse .left) (fits-row (now s) depth scope (Statement.letin p q)) ⌝ }
+    requires { ⌜ Lent (now s) (now first) (now behind) (now class) (now same) (now kin) ⌝ }
     ensures { λ a. ⌜ RowGives (now (s .entry)) (now (work .entry)) (now (work .exit)) scope used depth 0
         (Statement.letin p q) focus (purse .left) a ⌝ }
 {
@@ -378,7 +427,7 @@ fn let_in(
             root,
             used: n,
             purse: rest,
-        } => statement(s, work, scope.with(1, root), n, q, focus, depth, rest),
+        } => statement(s, work, first, behind, class, same, kin, scope.with(1, root), n, q, focus, depth, rest),
     }
 }
 
@@ -386,6 +435,11 @@ fn let_in(
 fn snapshot(
     s: &[u8],
     work: &mut [u8],
+    first: &[u64; 4617],
+    behind: &[u64; 4617],
+    class: &[u16; 1026],
+    same: &[u64; 4617],
+    kin: &[u16; 576],
     scope: Scope,
     used: usize,
     p: usize,
@@ -394,16 +448,22 @@ fn snapshot(
     purse: Purse,
 ) -> Found
     requires { ⌜ Checks (now s) (now work) scope used focus (purse .left) (fits-row (now s) depth scope (Statement.snapshot p)) ⌝ }
+    requires { ⌜ Lent (now s) (now first) (now behind) (now class) (now same) (now kin) ⌝ }
     ensures { λ a. ⌜ RowGives (now (s .entry)) (now (work .entry)) (now (work .exit)) scope used depth 0
         (Statement.snapshot p) focus (purse .left) a ⌝ }
 {
-    statement(s, work, scope.with(1, focus), used, p, focus, depth, purse)
+    statement(s, work, first, behind, class, same, kin, scope.with(1, focus), used, p, focus, depth, purse)
 }
 
 // A statement on an atom that matches; another stays as it is.
 fn test(
     s: &[u8],
     work: &mut [u8],
+    first: &[u64; 4617],
+    behind: &[u64; 4617],
+    class: &[u16; 1026],
+    same: &[u64; 4617],
+    kin: &[u16; 576],
     scope: Scope,
     used: usize,
     at: usize,
@@ -416,12 +476,13 @@ fn test(
 ) -> Found
     requires { ⌜ Checks (now s) (now work) scope used focus (purse .left) (fits-row (now s) depth scope
         (Statement.test (testForm p q) r)) ⌝ }
+    requires { ⌜ Lent (now s) (now first) (now behind) (now class) (now same) (now kin) ⌝ }
     ensures { λ a. ⌜ RowGives (now (s .entry)) (now (work .entry)) (now (work .exit)) scope used depth at
         (Statement.test (testForm p q) r) focus (purse .left) a ⌝ }
 {
     match judge(s, work, p, q, focus) {
         Fate::Misfit => Found::Not(Halt::Mismatch(at, 2, purse)),
-        Fate::Matched => statement(s, work, scope, used, r, focus, depth, purse),
+        Fate::Matched => statement(s, work, first, behind, class, same, kin, scope, used, r, focus, depth, purse),
         Fate::Passed => Found::Done {
             root: focus,
             used,
@@ -434,6 +495,11 @@ fn test(
 fn children(
     s: &[u8],
     work: &mut [u8],
+    first: &[u64; 4617],
+    behind: &[u64; 4617],
+    class: &[u16; 1026],
+    same: &[u64; 4617],
+    kin: &[u16; 576],
     scope: Scope,
     used: usize,
     at: usize,
@@ -443,6 +509,7 @@ fn children(
     purse: Purse,
 ) -> Found
     requires { ⌜ Checks (now s) (now work) scope used focus (purse .left) (fits-row (now s) depth scope (Statement.children p)) ⌝ }
+    requires { ⌜ Lent (now s) (now first) (now behind) (now class) (now same) (now kin) ⌝ }
     ensures { λ a. ⌜ RowGives (now (s .entry)) (now (work .entry)) (now (work .exit)) scope used depth at
         (Statement.children p) focus (purse .left) a ⌝ }
 {
@@ -450,6 +517,11 @@ fn children(
         Atom::Label(label, content) => match statement(
             s,
             work,
+            first,
+            behind,
+            class,
+            same,
+            kin,
             scope,
             used,
             p,
@@ -474,6 +546,11 @@ fn children(
 fn left(
     s: &[u8],
     work: &mut [u8],
+    first: &[u64; 4617],
+    behind: &[u64; 4617],
+    class: &[u16; 1026],
+    same: &[u64; 4617],
+    kin: &[u16; 576],
     scope: Scope,
     used: usize,
     p: usize,
@@ -482,10 +559,11 @@ fn left(
     purse: Purse,
 ) -> Found
     requires { ⌜ Checks (now s) (now work) scope used focus (purse .left) (fits-row (now s) depth scope (Statement.left p)) ⌝ }
+    requires { ⌜ Lent (now s) (now first) (now behind) (now class) (now same) (now kin) ⌝ }
     ensures { λ a. ⌜ RowGives (now (s .entry)) (now (work .entry)) (now (work .exit)) scope used depth 0
         (Statement.left p) focus (purse .left) a ⌝ }
 {
-    match statement(s, work, scope, used, p, 0, depth, purse) {
+    match statement(s, work, first, behind, class, same, kin, scope, used, p, 0, depth, purse) {
         Found::Not(why) => Found::Not(why),
         Found::Done {
             root,
@@ -499,6 +577,11 @@ fn left(
 fn right(
     s: &[u8],
     work: &mut [u8],
+    first: &[u64; 4617],
+    behind: &[u64; 4617],
+    class: &[u16; 1026],
+    same: &[u64; 4617],
+    kin: &[u16; 576],
     scope: Scope,
     used: usize,
     p: usize,
@@ -507,10 +590,11 @@ fn right(
     purse: Purse,
 ) -> Found
     requires { ⌜ Checks (now s) (now work) scope used focus (purse .left) (fits-row (now s) depth scope (Statement.right p)) ⌝ }
+    requires { ⌜ Lent (now s) (now first) (now behind) (now class) (now same) (now kin) ⌝ }
     ensures { λ a. ⌜ RowGives (now (s .entry)) (now (work .entry)) (now (work .exit)) scope used depth 0
         (Statement.right p) focus (purse .left) a ⌝ }
 {
-    match statement(s, work, scope, used, p, 0, depth, purse) {
+    match statement(s, work, first, behind, class, same, kin, scope, used, p, 0, depth, purse) {
         Found::Not(why) => Found::Not(why),
         Found::Done {
             root,
@@ -520,10 +604,15 @@ fn right(
     }
 }
 
-// A type part by part: the statement at each atom.
+// A type part by part: the statement at each atom. One answer at a time, in `a`: a type row visited is a frame, and thousands may be visited at once.
 fn parts(
     s: &[u8],
     work: &mut [u8],
+    first: &[u64; 4617],
+    behind: &[u64; 4617],
+    class: &[u16; 1026],
+    same: &[u64; 4617],
+    kin: &[u16; 576],
     scope: Scope,
     used: usize,
     body: usize,
@@ -532,8 +621,10 @@ fn parts(
     purse: Purse,
 ) -> Found
     requires { ⌜ Checks (now s) (now work) scope used of (purse .left) (fits (now s) depth scope body) ⌝ }
+    requires { ⌜ Lent (now s) (now first) (now behind) (now class) (now same) (now kin) ⌝ }
     ensures { λ a. ⌜ PartsGive (now (s .entry)) (now (work .entry)) (now (work .exit)) scope used depth body of (purse .left) a ⌝ }
 {
+    let mut a = Found::Not(Halt::Fuel);
     match purse.take() {
         Taken::Fuel => Found::Not(Halt::Fuel),
         Taken::Left(rest) => match atoms::part_of(s, work, of) {
@@ -542,30 +633,42 @@ fn parts(
                 used,
                 purse: rest,
             },
-            Part::Atom => statement(s, work, scope, used, body, of, depth, rest),
-            Part::Star(p) => match parts(s, work, scope, used, body, p, depth, rest) {
-                Found::Not(why) => Found::Not(why),
-                Found::Done {
-                    root,
-                    used: n,
-                    purse: left,
-                } => write(s, work, n, 7, root, 0, left),
-            },
-            Part::Pair(kind, p, q) => match parts(s, work, scope, used, body, p, depth, rest) {
-                Found::Not(why) => Found::Not(why),
-                Found::Done {
-                    root: x,
-                    used: n,
-                    purse: left,
-                } => match parts(s, work, scope, n, body, q, depth, left) {
+            Part::Atom => {
+                a = statement(s, work, first, behind, class, same, kin, scope, used, body, of, depth, rest);
+                a
+            }
+            Part::Star(p) => {
+                a = parts(s, work, first, behind, class, same, kin, scope, used, body, p, depth, rest);
+                match a {
                     Found::Not(why) => Found::Not(why),
                     Found::Done {
-                        root: y,
-                        used: m,
-                        purse: most,
-                    } => write(s, work, m, kind, x, y, most),
-                },
-            },
+                        root,
+                        used: n,
+                        purse: left,
+                    } => write(s, work, n, 7, root, 0, left),
+                }
+            }
+            Part::Pair(kind, p, q) => {
+                a = parts(s, work, first, behind, class, same, kin, scope, used, body, p, depth, rest);
+                match a {
+                    Found::Not(why) => Found::Not(why),
+                    Found::Done {
+                        root: x,
+                        used: n,
+                        purse: left,
+                    } => {
+                        a = parts(s, work, first, behind, class, same, kin, scope, n, body, q, depth, left);
+                        match a {
+                            Found::Not(why) => Found::Not(why),
+                            Found::Done {
+                                root: y,
+                                used: m,
+                                purse: most,
+                            } => write(s, work, m, kind, x, y, most),
+                        }
+                    }
+                }
+            }
         },
     }
 }
@@ -574,6 +677,11 @@ fn parts(
 fn body(
     s: &[u8],
     work: &mut [u8],
+    first: &[u64; 4617],
+    behind: &[u64; 4617],
+    class: &[u16; 1026],
+    same: &[u64; 4617],
+    kin: &[u16; 576],
     scope: Scope,
     used: usize,
     at: usize,
@@ -582,36 +690,54 @@ fn body(
     purse: Purse,
 ) -> Found
     requires { ⌜ (Checks (now s) (now work) scope used input (purse .left) (fits (now s) 200 scope at)) × (Wanted (now s) output) ⌝ }
+    requires { ⌜ Lent (now s) (now first) (now behind) (now class) (now same) (now kin) ⌝ }
     ensures { λ a. ⌜ BodyGives (now (s .entry)) (now (work .entry)) (now (work .exit)) scope used at input output (purse .left) a ⌝ }
 {
-    match statement(s, work, scope, used, at, input, 200, purse) {
+    match statement(s, work, first, behind, class, same, kin, scope, used, at, input, 200, purse) {
         Found::Not(why) => Found::Not(why),
         Found::Done {
             root,
             used: n,
             purse: rest,
-        } => lies(s, work, n, 0, 0, root, output, root, rest),
+        } => lies(s, work, first, behind, class, same, kin, n, 0, 0, root, output, root, rest),
     }
 }
 
 // A procedure's body, with its parameters as its only variables.
-fn procedure(s: &[u8], work: &mut [u8], used: usize, c: usize, purse: Purse) -> Found
+fn procedure(
+    s: &[u8],
+    work: &mut [u8],
+    first: &[u64; 4617],
+    behind: &[u64; 4617],
+    class: &[u16; 1026],
+    same: &[u64; 4617],
+    kin: &[u16; 576],
+    used: usize,
+    c: usize,
+    purse: Purse,
+) -> Found
     requires { ⌜ (Loads (now s) done) × (Room (now s) (now work) used (purse .left)) × (inTable (scriptOf (now s) .procedures) c ≡ true) ⌝ }
+    requires { ⌜ Lent (now s) (now first) (now behind) (now class) (now same) (now kin) ⌝ }
     ensures { λ a. ⌜ ProcedureGives (now (s .entry)) (now (work .entry)) (now (work .exit)) used c (purse .left) a ⌝ }
 {
     let one = sheet::procedure_at(s, c);
     let none = Scope::new();
     if one.first == 0 {
-        return body(s, work, none, used, one.body, one.input, one.output, purse);
+        return body(s, work, first, behind, class, same, kin, none, used, one.body, one.input, one.output, purse);
     }
-    let first = none.with(1, one.first);
+    let scope = none.with(1, one.first);
     if one.second == 0 {
-        return body(s, work, first, used, one.body, one.input, one.output, purse);
+        return body(s, work, first, behind, class, same, kin, scope, used, one.body, one.input, one.output, purse);
     }
     body(
         s,
         work,
-        first.with(1, one.second),
+        first,
+        behind,
+        class,
+        same,
+        kin,
+        scope.with(1, one.second),
         used,
         one.body,
         one.input,
@@ -621,8 +747,18 @@ fn procedure(s: &[u8], work: &mut [u8], used: usize, c: usize, purse: Purse) -> 
 }
 
 // Every procedure in number order, then main from A to B, for one purse.
-pub fn check(s: &[u8], work: &mut [u8], purse: Purse) -> Found
+pub fn check(
+    s: &[u8],
+    work: &mut [u8],
+    first: &[u64; 4617],
+    behind: &[u64; 4617],
+    class: &[u16; 1026],
+    same: &[u64; 4617],
+    kin: &[u16; 576],
+    purse: Purse,
+) -> Found
     requires { ⌜ (Loads (now s) done) × (8 * purse .left ≤ length (now work)) × (purse .left ≤ 4096) ⌝ }
+    requires { ⌜ Lent (now s) (now first) (now behind) (now class) (now same) (now kin) ⌝ }
     ensures { λ a. ⌜ Finds (check-walk (scriptOf (now (s .entry))))
         (now (s .entry)) (purse .left) 0 (now (work .entry)) (now (work .exit)) a ⌝ }
 {
@@ -631,7 +767,7 @@ pub fn check(s: &[u8], work: &mut [u8], purse: Purse) -> Found
     let mut n = 0;
     let mut rest = purse;
     while c < l.procedures {
-        match procedure(s, work, n, c + 1, rest) {
+        match procedure(s, work, first, behind, class, same, kin, n, c + 1, rest) {
             Found::Not(why) => return Found::Not(why),
             Found::Done {
                 root: _,
@@ -644,5 +780,5 @@ pub fn check(s: &[u8], work: &mut [u8], purse: Purse) -> Found
         }
         c += 1;
     }
-    body(s, work, Scope::new(), n, l.main, l.a, l.b, rest)
+    body(s, work, first, behind, class, same, kin, Scope::new(), n, l.main, l.a, l.b, rest)
 }

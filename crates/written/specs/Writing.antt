@@ -420,6 +420,12 @@ pub record Written (g : ℕ → Cells) (found : ℕ) (own : List ℕ) : Type 0 w
   pub sides : (k : ℕ) → (ownRow own k .kind ≡ 5) ⊎ (ownRow own k .kind ≡ 6) → ownRow own k .p ≡ ownRow own k .q → ⊥
   pub atoms : (k : ℕ) → (ownRow own k .kind ≡ 4) ⊎ (ownRow own k .kind ≡ 8) → (r : ℕ) × (r ≤ found) × (g r .kind ≡ ownRow own k .kind) × (g r .p ≡ ownRow own k .p)
 
+-- the rows 1 to r are blank: of kind 0 and part of no row; the type's own row is above them
+pub record Blank (own : List ℕ) (r : ℕ) : Type 0 where
+  pub few : r < 512
+  pub none : (k : ℕ) → 1 ≤ k → k ≤ r → ownRow own k .kind ≡ 0
+  pub unused : (k j : ℕ) → Uses (ownRow own k) j → r < j
+
 -- it lies in its bytes
 pub own-lies : {g : ℕ → Cells} {found : ℕ} {own : List ℕ} → Written g found own → Lies own 0 3 512
 own-lies w = record { bytes = omega (arith, w .size); low = omega arith; few = omega arith }
@@ -526,6 +532,14 @@ module _ (g : ℕ → Cells) (low : Lower g) {found : ℕ} {own from : List ℕ}
   pub narrow : size (typeOf g found) ≤ 512
   unfolding weigh
   narrow = let z : i - free ≡ 0 = omega arith in let y = rw z at (w .left) in omega (arith, y, w .order .1)
+
+  -- the rows that were not handed out
+  pub all-blank : Blank own free
+  all-blank = record {
+    few = w .begun;
+    none = λ k a b. w .rest k (omega (arith, w .order .0));
+    unused = λ k j u. (let n = uses-kind (ownRow own k) j u in copied-uses (is-copied k (n .0) (n .1)) j u .0);
+  }
 
 -- ---- where the loop begins
 

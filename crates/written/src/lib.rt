@@ -1,7 +1,6 @@
 // A type as a check keeps it, whose rows may share their parts, written out: one user a row, at most 512 rows, names not opened.
 use sheet::Row;
 ghost use mathlib.Core.Path.{_≡_};
-ghost use mathlib.Core.Bool.{true, false};
 ghost use Prim.Native.Nat.{ℕ, _+_, _-_, _<_, _≤_};
 ghost use lib.ListN.{length, replicate};
 ghost use mathlib.Core.Logic.{_⊎_};
@@ -10,7 +9,7 @@ ghost use Rattle.meaning.specs.Types.{size};
 ghost use Rattle.sheet.specs.Laid.{cellsOf};
 ghost use Rattle.sheet.specs.Whole.{Whole};
 ghost use Rattle.grown.specs.Grown.{typeIn, tyIn, Grows};
-ghost use Rattle.written.specs.Writing.{partsOf, Put, Handed, Written};
+ghost use Rattle.written.specs.Writing.{partsOf, Put, Handed, Written, Blank};
 
 fn wide(x: u16) -> usize
     ensures { λ r. ⌜ r ≡ x ⌝ }
@@ -70,14 +69,16 @@ fn hand_out(own: &mut [u8; 3072], from: &mut [usize; 513], i: usize, c: Row, fre
     }
 }
 
-// Writes the type at row `found` out, of which `used` lent rows count: it stands at row 512, and the parts of each row get the next free rows below. False where more than 512 rows are needed.
-pub fn write_out(s: &[u8], work: &[u8], used: usize, found: usize, own: &mut [u8; 3072]) -> bool
+// Writes the type at row `found` out, of which `used` lent rows count: it stands at row 512, and the parts of each row get the next free rows below.
+// The answer is how many rows stay blank below them, so that nobody need look at those; 512 where more than 512 rows are needed.
+pub fn write_out(s: &[u8], work: &[u8], used: usize, found: usize, own: &mut [u8; 3072]) -> usize
     requires { ⌜ Whole (now s) ⌝ }
     requires { ⌜ Grows (now s) (now work) used × (found ≤ scriptOf (now s) .types + used) × (found < 65536) ⌝ }
     requires { ⌜ now own ≡ replicate 3072 0 ⌝ }
-    ensures written { λ b. ⌜ (b ≡ true → Written (typeIn (now (s .entry)) (now (work .entry)) used) found (now (own .exit))) ⌝ }
-    ensures narrow { λ b. ⌜ (b ≡ true → size (tyIn (now (s .entry)) (now (work .entry)) used found) ≤ 512) ⌝ }
-    ensures over { λ b. ⌜ (b ≡ false → 512 < size (tyIn (now (s .entry)) (now (work .entry)) used found)) ⌝ }
+    ensures written { λ r. ⌜ (r < 512 → Written (typeIn (now (s .entry)) (now (work .entry)) used) found (now (own .exit))) ⌝ }
+    ensures narrow { λ r. ⌜ (r < 512 → size (tyIn (now (s .entry)) (now (work .entry)) used found) ≤ 512) ⌝ }
+    ensures blank { λ r. ⌜ (r < 512 → Blank (now (own .exit)) r) ⌝ }
+    ensures over { λ r. ⌜ (512 ≤ r → 512 < size (tyIn (now (s .entry)) (now (work .entry)) used found)) ⌝ }
 {
     let mut from = [0usize; 513];
     from[512] = found;
@@ -87,11 +88,11 @@ pub fn write_out(s: &[u8], work: &[u8], used: usize, found: usize, own: &mut [u8
         let c = grown::row(s, work, from[i]);
         let n = parts(c.kind);
         if free < n {
-            return false;
+            return 512;
         }
         hand_out(own, &mut from, i, c, free);
         free -= n;
         i -= 1;
     }
-    true
+    free
 }

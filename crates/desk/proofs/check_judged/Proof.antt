@@ -1,11 +1,13 @@
--- `desk::check_judged` meets its contract: the order of refusals 2, 3 and 4.
-use mathlib.Core.Path.{sym, _∙_, subst}
+-- `desk::check_judged` meets its contract: the order of refusals 2, 3 and 4, then the check by the tables made on the way.
+use mathlib.Core.Path.{refl, sym, _∙_, subst}
 use borrow.Author.Tests.{not-true, not-false}
 use Rattle.meaning.specs.Reply.{Loads, misshapen}
 use Rattle.meaning.specs.Reply as meaning
 use Rattle.sheet.specs.Whole.{whole-shaped}
+use Rattle.places.specs.Tables.{clear-zeros}
 use Rattle.ties.specs.Sound.{soundOf}
 use Rattle.ties.specs.declared.Soundness.{Soundness}
+use Rattle.tables.specs.Lent.{lent-done}
 use borrow.Author.Needs.{needs}
 use Rattle.desk.proofs.check_judged.Statement.{statement}
 use Rattle.desk.proofs.check_judged.Tie as tie
@@ -14,13 +16,13 @@ shapely-requires : tie.Need-shapely-requires
 shapely-requires c κs = search needs
 
 returns : tie.Need-returns
-returns c = record { said = meaning.Checked.unsound (misshapen (sym (c .before .shapely .ensures) ∙ not-true (c .before .shapely .result) (c .if1 .taken))) }
+returns c = let the-shapely = c .before .shapely in record { said = meaning.Checked.unsound (misshapen (sym (the-shapely .ensures) ∙ not-true (the-shapely .result) (c .if1 .taken))) }
 
 lay-out-requires : tie.Need-lay-out-requires
-lay-out-requires c κs = whole-shaped (c .before .before .before .before .args .s .now) (sym (c .before .shapely .ensures) ∙ not-false (c .before .shapely .result) (c .if1 .left))
+lay-out-requires c κs = let the-shapely = c .before .shapely in whole-shaped (c .before .before .before .before .args .s .now) (sym (the-shapely .ensures) ∙ not-false (the-shapely .result) (c .if1 .left))
 
-sound-requires : tie.Need-sound-requires
-sound-requires c κs = ((sym (c .before .before .shapely .ensures) ∙ not-false (c .before .before .shapely .result) (c .before .if1 .left)), c .lay-out .ensures)
+judge-requires : tie.Need-judge-requires
+judge-requires c κs = let the-shapely = c .before .before .before .before .before .before .before .shapely in ((sym (the-shapely .ensures) ∙ not-false (the-shapely .result) (c .before .before .before .before .before .before .if1 .left)), (c .before .before .before .before .before .lay-out .ensures, ((clear-zeros, clear-zeros, clear-zeros), (refl, refl))))
 
 enum-known-x : tie.Need-enum-known-x
 enum-known-x c = search needs
@@ -32,13 +34,13 @@ enum-told : tie.Need-enum-told
 enum-told c = search needs
 
 typed-requires : tie.Need-typed-requires
-typed-requires c κs = ((sym (c .before .before .before .before .before .before .shapely .ensures) ∙ not-false (c .before .before .before .before .before .before .shapely .result) (c .before .before .before .before .before .if1 .left)), c .before .before .before .before .lay-out .ensures, subst (λ (a : Soundness). Loads (c .before .before .before .before .before .before .before .before .before .args .s .now) (soundOf a)) (c .before .enum-told .given .1) (c .before .before .before .sound .ensures))
+typed-requires c κs = let the-shapely = c .before .before .before .before .before .before .before .before .before .before .before .before .before .before .before .before .shapely in let the-enum-told = c .before .before .before .before .before .before .enum-told in let the-judge = c .before .before .before .before .before .before .before .before .judge in (((sym (the-shapely .ensures) ∙ not-false (the-shapely .result) (c .before .before .before .before .before .before .before .before .before .before .before .before .before .before .before .if1 .left)), c .before .before .before .before .before .before .before .before .before .before .before .before .before .before .lay-out .ensures, subst (λ (a : Soundness). Loads (c .before .before .before .before .before .before .before .before .before .before .before .before .before .before .before .before .before .before .before .args .s .now) (soundOf a)) (the-enum-told .given .1) (the-judge .ensures .loads)), lent-done (the-enum-told .given .1) (the-judge .ensures))
 
 returns-2 : tie.Need-returns-2
-returns-2 c = record { said = meaning.Checked.unsound (subst (λ (a : Soundness). Loads (c .before .before .before .before .before .before .before .before .before .args .s .now) (soundOf a)) (c .before .x .given .1) (c .before .before .before .sound .ensures)) }
+returns-2 c = record { said = meaning.Checked.unsound (subst (λ (a : Soundness). Loads (c .before .before .before .before .before .before .before .before .before .before .before .before .before .before .args .s .now) (soundOf a)) (c .before .x .given .1) (c .before .before .before .judge .ensures .loads)) }
 
 returns-3 : tie.Need-returns-3
-returns-3 c = record { said = meaning.Checked.unsound (subst (λ (a : Soundness). Loads (c .before .before .before .before .before .before .before .before .before .args .s .now) (soundOf a)) (c .before .t .given .1) (c .before .before .before .sound .ensures)) }
+returns-3 c = record { said = meaning.Checked.unsound (subst (λ (a : Soundness). Loads (c .before .before .before .before .before .before .before .before .before .before .before .before .before .before .args .s .now) (soundOf a)) (c .before .t .given .1) (c .before .before .before .judge .ensures .loads)) }
 
 same-length : tie.Need-same-length
 same-length c = search needs
@@ -47,18 +49,4 @@ returns-4 : tie.Need-returns-4
 returns-4 c = search needs
 
 pub check-judged-spec : {M : Type 1} → statement M
-check-judged-spec =
-    tie.close
-    (tie.spec
-    shapely-requires
-    returns
-    lay-out-requires
-    sound-requires
-    enum-known-x
-    enum-known-t
-    enum-told
-    typed-requires
-    returns-2
-    returns-3
-    same-length
-    returns-4)
+check-judged-spec = tie.close (tie.spec shapely-requires returns lay-out-requires judge-requires enum-known-x enum-known-t enum-told typed-requires returns-2 returns-3 same-length returns-4)

@@ -15,18 +15,18 @@ array-write-top : tie.Need-array-write-top
 array-write-top c = told-index (now (c .before .args .s)) (c .before .pre .0 .0) (c .before .args .told) (c .before .pre .1 .1)
 
 firsts-requires : tie.Need-firsts-requires
-firsts-requires c κs = let p = c .before .before .before .pre in (laid-rows (p .0 .1) (p .0 .0), (types-lie (p .0 .1), (refl, clear-zeros)))
+firsts-requires c κs = let p = c .before .before .before .pre in (laid-rows (p .0 .1) (p .0 .0), (types-lie (p .0 .1), ((omega arith, λ i a b. absurd (omega arith)), (refl, clear-zeros))))
 
 roots-requires : tie.Need-roots-requires
 roots-requires c κs = let p = c .before .before .before .before .before .pre in (p .0 .1, (refl, unset 513))
 
 behinds-requires : tie.Need-behinds-requires
 behinds-requires c κs = let a = c .before .before .before .before .before .before .before .before .before .before in let p = a .pre in
-    (laid-rows (p .0 .1) (p .0 .0), (types-lie (p .0 .1), (omega arith, (c .before .before .before .before .before .before .firsts .ensures, (free-rows (p .0 .1) (p .0 .0) (c .before .before .before .before .roots .ensures), clear-zeros)))))
+    (laid-rows (p .0 .1) (p .0 .0), (types-lie (p .0 .1), ((omega arith, λ i a b. absurd (omega arith)), (c .before .before .before .before .before .before .firsts .ensures, (free-rows (p .0 .1) (p .0 .0) (c .before .before .before .before .roots .ensures), clear-zeros)))))
 
 behinds-requires-2 : tie.Need-behinds-requires-2
 behinds-requires-2 c κs = let a = c .before .before .before .before .before .before .before .before .before .before .before .before .before .before .before in let p = a .pre in
-    (laid-rows (p .0 .1) (p .0 .0), (types-lie (p .0 .1), (told-low (now (a .args .s)) (p .0 .0) (a .args .told) (p .1 .1) (p .0 .1), (c .before .before .before .before .before .before .before .before .before .before .before .firsts .ensures, (told-alone (now (a .args .s)) (p .0 .0) (a .args .told) (p .1 .1) (p .0 .1), clear-zeros)))))
+    (laid-rows (p .0 .1) (p .0 .0), (types-lie (p .0 .1), ((told-low (now (a .args .s)) (p .0 .0) (a .args .told) (p .1 .1) (p .0 .1), λ i x y. absurd (omega arith)), (c .before .before .before .before .before .before .before .before .before .before .before .firsts .ensures, (told-alone (now (a .args .s)) (p .0 .0) (a .args .told) (p .1 .1) (p .0 .1), clear-zeros)))))
 
 classes-requires : tie.Need-classes-requires
 classes-requires c κs = let p = c .before .before .before .before .before .before .before .before .before .before .before .before .before .before .before .before .before .before .pre in (p .0 .0, (p .0 .1, (refl, clear-zeros)))

@@ -4,18 +4,18 @@ use mathlib.Core.Path.{_≡_, ap, _∙_}
 use native.Mathlib.Omega.{arith}
 use borrow.Author.Needs.{needs}
 use Rattle.meaning.specs.Sheet.{row3}
-use Rattle.kin.specs.Kin.{kinNo, Kins, kins-none, kins-more}
+use Rattle.kin.specs.Kin.{kinNo, Kins, kins-low, kins-more}
 use Rattle.kin.proofs.kins.Statement.{statement}
 use Rattle.kin.proofs.kins.Tie as tie
 
 abbrev Inv-loop : tie.InvT-loop
-Inv-loop s l x at n class kin₀ i₀ kin i = (i ≤ n) × Kins (row3 x at n) i s class kin
+Inv-loop s l x at n low class kin₀ i₀ kin i = (i ≤ n) × Kins (row3 x at n) i s class kin
 
 abbrev μ-loop : tie.MeasureT-loop
-μ-loop s l x at n class kin₀ i₀ kin i = n - i
+μ-loop s l x at n low class kin₀ i₀ kin i = n - i
 
 loop-holds : tie.Need-loop-holds Inv-loop μ-loop
-loop-holds c = (omega arith, rw (c .before .before .pre .1 .1) (kins-none (row3 (c .before .before .args .x .now) (c .before .before .args .at) (c .before .before .args .n)) (c .before .before .args .s .now) (c .before .before .args .class .now)))
+loop-holds c = (let p = c .before .before .pre in (p .1 .1 .0 .0, rw (p .1 .1 .1) (kins-low (row3 (c .before .before .args .x .now) (c .before .before .args .at) (c .before .before .args .n)) (c .before .before .args .s .now) (c .before .before .args .class .now) (c .before .before .args .low) (p .1 .1 .0 .1))))
 
 add-row-of-three : tie.Need-add-row-of-three Inv-loop μ-loop
 add-row-of-three c = omega (arith, c .before .before .before .before .pre .1 .0 .1)

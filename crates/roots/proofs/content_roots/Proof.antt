@@ -5,7 +5,7 @@ use native.Mathlib.Omega.{arith}
 use borrow.Author.Needs.{needs}
 use Rattle.meaning.specs.Tests.{some}
 use Rattle.meaning.specs.Sheet.{row3}
-use Rattle.roots.specs.Roots.{Marked, held-root, some-none, some-more, some-all}
+use Rattle.roots.specs.Roots.{Marked, held-root, none-held, some-more, some-all}
 use Rattle.roots.proofs.content_roots.Statement.{statement}
 use Rattle.roots.proofs.content_roots.Tie as tie
 use Rattle.roots.proofs.content_roots.Reads as reads
@@ -13,19 +13,19 @@ use Rattle.roots.proofs.content_roots.Lts as lts
 use Rattle.roots.proofs.content.Reads as content-reads
 
 abbrev Inv-loop : tie.InvT-loop
-Inv-loop s at n root₀ i₀ root i = (i ≤ n) × Marked root₀ root (λ y. some (held-root (row3 s at n) y) i)
+Inv-loop s at n low root₀ i₀ root i = (i ≤ n) × Marked root₀ root (λ y. some (held-root (row3 s at n) y) i)
 
 abbrev μ-loop : tie.MeasureT-loop
-μ-loop s at n root₀ i₀ root i = n - i
+μ-loop s at n low root₀ i₀ root i = n - i
 
 loop-holds : tie.Need-loop-holds Inv-loop μ-loop
-loop-holds c = (omega arith, some-none (c .before .args .root .now) (held-root (row3 (c .before .args .s .now) (c .before .args .at) (c .before .args .n))))
+loop-holds c = (let p = c .before .pre in (p .1 .0 .0, none-held (row3 (c .before .args .s .now) (c .before .args .at) (c .before .args .n)) (c .before .args .root .now) (c .before .args .low) (p .1 .0 .1)))
 
 add-content : tie.Need-add-content Inv-loop μ-loop
 add-content c = omega (arith, c .before .loop .inv .0, c .before .before .before .pre .0 .few)
 
 content-requires : tie.Need-content-requires Inv-loop μ-loop
-content-requires c κs = (c .before .before .before .before .pre .0, c .before .before .loop .inv .1 .size ∙ c .before .before .before .before .pre .1)
+content-requires c κs = (c .before .before .before .before .pre .0, c .before .before .loop .inv .1 .size ∙ c .before .before .before .before .pre .1 .1)
 
 add-i : tie.Need-add-i Inv-loop μ-loop
 add-i c = omega (arith, c .before .before .before .loop .inv .0, c .before .before .before .before .before .pre .0 .few)

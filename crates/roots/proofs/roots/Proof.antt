@@ -1,5 +1,6 @@
 -- `roots::roots` meets its contract: all of them together.
 use mathlib.Core.Path.{_∙_}
+use native.Mathlib.Omega.{arith}
 use Rattle.roots.specs.Roots.{marked-then, rooted}
 use Rattle.sheet.specs.Laid.{types-lie}
 use Rattle.roots.proofs.roots.Statement.{statement}
@@ -24,7 +25,7 @@ procedure-roots-requires : tie.Need-procedure-roots-requires
 procedure-roots-requires c κs = (c .before .before .before .before .before .before .before .before .pre .0, c .before .name-roots .ensures .size ∙ c .before .before .before .mark2 .ensures .size ∙ c .before .before .before .before .before .mark .ensures .size ∙ c .before .before .before .before .before .before .before .before .pre .1 .0)
 
 content-roots-requires : tie.Need-content-roots-requires
-content-roots-requires c κs = (types-lie (c .before .before .before .before .before .before .before .before .before .before .pre .0), c .before .procedure-roots .ensures .size ∙ c .before .before .before .name-roots .ensures .size ∙ c .before .before .before .before .before .mark2 .ensures .size ∙ c .before .before .before .before .before .before .before .mark .ensures .size ∙ c .before .before .before .before .before .before .before .before .before .before .pre .1 .0)
+content-roots-requires c κs = (types-lie (c .before .before .before .before .before .before .before .before .before .before .pre .0), ((omega arith, λ i a b. absurd (omega arith)), c .before .procedure-roots .ensures .size ∙ c .before .before .before .name-roots .ensures .size ∙ c .before .before .before .before .before .mark2 .ensures .size ∙ c .before .before .before .before .before .before .before .mark .ensures .size ∙ c .before .before .before .before .before .before .before .before .before .before .pre .1 .0))
 
 returns : tie.Need-returns
 returns c = rooted (c .before .before .before .before .before .before .before .before .before .before .before .args .s .now) (c .before .before .before .before .before .before .before .before .before .before .before .pre .0) (c .before .before .before .before .before .before .before .before .before .before .before .pre .1 .0) (c .before .before .before .before .before .before .before .before .before .before .before .pre .1 .1) (marked-then (marked-then (marked-then (marked-then (c .before .before .before .before .before .before .before .before .mark .ensures) (c .before .before .before .before .before .before .mark2 .ensures)) (c .before .before .before .before .name-roots .ensures)) (c .before .before .procedure-roots .ensures)) (c .content-roots .ensures))

@@ -1,11 +1,10 @@
 -- `written::write_out` meets its contract. The loop's invariant (`Writing`): the rows above i are written, those above `free` handed out.
-use mathlib.Core.Path.{sym, ap}
-use mathlib.Core.Bool.{false≢true}
+use mathlib.Core.Path.{ap}
 use native.Mathlib.Omega.{arith}
 use borrow.Author.Needs.{needs}
 use Rattle.sheet.specs.Laid.{cellsOf}
 use Rattle.grown.specs.Grown.{typeIn}
-use Rattle.written.specs.Writing.{Writing, writing-none, writing-more, too-wide, all-written, narrow}
+use Rattle.written.specs.Writing.{Writing, writing-none, writing-more, too-wide, all-written, all-blank, narrow}
 use Rattle.written.proofs.write_out.Statement.{statement}
 use Rattle.written.proofs.write_out.Tie as tie
 
@@ -34,7 +33,7 @@ parts-requires : tie.Need-parts-requires Inv-loop μ-loop
 parts-requires c κs = search needs
 
 returns : tie.Need-returns Inv-loop μ-loop
-returns c = (λ z. absurd (false≢true z), (λ z. absurd (false≢true z), λ z. too-wide (typeIn (c .before .before .before .before .before .before .before .args .s .now) (c .before .before .before .before .before .before .before .args .work .now) (c .before .before .before .before .before .before .before .args .used)) (c .before .before .before .before .before .before .before .pre .1 .0 .0 .low) (c .before .before .before .before .loop .inv) (c .before .before .before .loop-test .taken) (cellsOf (c .before .before .row .result)) (c .before .before .row .ensures (c .before .before .before .before .before .before .before .args .used) (let z = (c .before .before .before .before .loop .inv .known (c .before .before .before .before .loop .i) (c .before .before .before .loop-test .taken) (c .before .before .before .before .loop .inv .order .1)) in omega (arith, z, c .before .before .before .before .before .before .before .pre .1 .0 .1))) (rw (c .before .parts .ensures) at (c .if1 .taken))))
+returns c = (λ z. absurd (omega arith), (λ z. absurd (omega arith), (λ z. absurd (omega arith), λ z. too-wide (typeIn (c .before .before .before .before .before .before .before .args .s .now) (c .before .before .before .before .before .before .before .args .work .now) (c .before .before .before .before .before .before .before .args .used)) (c .before .before .before .before .before .before .before .pre .1 .0 .0 .low) (c .before .before .before .before .loop .inv) (c .before .before .before .loop-test .taken) (cellsOf (c .before .before .row .result)) (c .before .before .row .ensures (c .before .before .before .before .before .before .before .args .used) (let z = (c .before .before .before .before .loop .inv .known (c .before .before .before .before .loop .i) (c .before .before .before .loop-test .taken) (c .before .before .before .before .loop .inv .order .1)) in omega (arith, z, c .before .before .before .before .before .before .before .pre .1 .0 .1))) (rw (c .before .parts .ensures) at (c .if1 .taken)))))
 
 hand-out-requires : tie.Need-hand-out-requires Inv-loop μ-loop
 hand-out-requires c κs = (c .before .before .before .before .before .before .loop .inv .own-size, (c .before .before .before .before .before .before .loop .inv .from-size, (omega arith, c .before .before .before .before .before .before .loop .inv .order .1, c .before .before .before .before .before .before .loop .inv .begun, (rw (c .before .before .before .parts .ensures) at (c .before .before .if1 .left)), λ x. rw (ap (λ y. y .p) (c .before .before .before .before .row .ensures (c .before .before .before .before .before .before .before .before .before .args .used) (let z = (c .before .before .before .before .before .before .loop .inv .known (c .before .before .before .before .before .before .loop .i) (c .before .before .before .before .before .loop-test .taken) (c .before .before .before .before .before .before .loop .inv .order .1)) in omega (arith, z, c .before .before .before .before .before .before .before .before .before .pre .1 .0 .1)))) (c .before .before .before .before .before .before .before .before .before .pre .1 .0 .0 .small _))))
@@ -49,7 +48,7 @@ loop-again : tie.Need-loop-again Inv-loop μ-loop
 loop-again c = rw (c .before .before .before .before .parts .ensures) (writing-more (typeIn (c .before .before .before .before .before .before .before .before .before .before .args .s .now) (c .before .before .before .before .before .before .before .before .before .before .args .work .now) (c .before .before .before .before .before .before .before .before .before .before .args .used)) (c .before .before .before .before .before .before .before .before .before .before .pre .1 .0 .0 .low) (c .before .before .before .before .before .before .before .loop .inv) (c .before .before .before .before .before .before .loop-test .taken) (c .before .before .before .before .before .row .ensures (c .before .before .before .before .before .before .before .before .before .before .args .used) (let z = (c .before .before .before .before .before .before .before .loop .inv .known (c .before .before .before .before .before .before .before .loop .i) (c .before .before .before .before .before .before .loop-test .taken) (c .before .before .before .before .before .before .before .loop .inv .order .1)) in omega (arith, z, c .before .before .before .before .before .before .before .before .before .before .pre .1 .0 .1))) (c .hand-out .ensures) (rw (c .before .before .before .before .parts .ensures) at (c .before .before .before .if1 .left)))
 
 returns-2 : tie.Need-returns-2 Inv-loop μ-loop
-returns-2 c = (λ z. all-written (typeIn (c .before .before .before .before .args .s .now) (c .before .before .before .before .args .work .now) (c .before .before .before .before .args .used)) (c .before .before .before .before .pre .1 .0 .0 .low) (c .before .loop .inv) (c .loop-test .left), (λ z. narrow (typeIn (c .before .before .before .before .args .s .now) (c .before .before .before .before .args .work .now) (c .before .before .before .before .args .used)) (c .before .before .before .before .pre .1 .0 .0 .low) (c .before .loop .inv) (c .loop-test .left), λ z. absurd (false≢true (sym z))))
+returns-2 c = (λ z. all-written (typeIn (c .before .before .before .before .args .s .now) (c .before .before .before .before .args .work .now) (c .before .before .before .before .args .used)) (c .before .before .before .before .pre .1 .0 .0 .low) (c .before .loop .inv) (c .loop-test .left), (λ z. narrow (typeIn (c .before .before .before .before .args .s .now) (c .before .before .before .before .args .work .now) (c .before .before .before .before .args .used)) (c .before .before .before .before .pre .1 .0 .0 .low) (c .before .loop .inv) (c .loop-test .left), (λ z. all-blank (typeIn (c .before .before .before .before .args .s .now) (c .before .before .before .before .args .work .now) (c .before .before .before .before .args .used)) (c .before .before .before .before .pre .1 .0 .0 .low) (c .before .loop .inv) (c .loop-test .left), λ z. absurd (omega (arith, z, c .before .loop .inv .begun)))))
 
 pub write-out-spec : {M : Type 1} → statement M
 write-out-spec =

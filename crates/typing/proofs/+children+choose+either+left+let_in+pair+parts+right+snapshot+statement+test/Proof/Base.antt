@@ -48,104 +48,104 @@ use Rattle.walk.proofs.Purse.take.Reads as take-called
 use Rattle.walk.proofs.Scope.with.Reads as with-called
 use Rattle.within.proofs.plain.Reads as plain-called
 
-abbrev pub μ-children : Measures 2 children-kinds.ps ℕ
-μ-children κs a = 70000 * (a .1 .1 .1 .1 .1 .1 .1 .0) + 1
+abbrev pub μ-children : Measures 7 children-kinds.ps ℕ
+μ-children κs a = 70000 * (a .1 .1 .1 .1 .1 .1 .1 .1 .1 .1 .1 .1 .0) + 1
 
-abbrev pub μ-choose : Measures 2 choose-kinds.ps ℕ
-μ-choose κs a = 70000 * (a .1 .1 .1 .1 .1 .1 .1 .1 .1 .0) + 2
+abbrev pub μ-choose : Measures 7 choose-kinds.ps ℕ
+μ-choose κs a = 70000 * (a .1 .1 .1 .1 .1 .1 .1 .1 .1 .1 .1 .1 .1 .1 .0) + 2
 
-abbrev pub μ-either : Measures 2 either-kinds.ps ℕ
-μ-either κs a = 70000 * (a .1 .1 .1 .1 .1 .1 .1 .0) + 1
+abbrev pub μ-either : Measures 7 either-kinds.ps ℕ
+μ-either κs a = 70000 * (a .1 .1 .1 .1 .1 .1 .1 .1 .1 .1 .1 .1 .0) + 1
 
-abbrev pub μ-left : Measures 2 left-kinds.ps ℕ
-μ-left κs a = 70000 * (a .1 .1 .1 .1 .1 .1 .0) + 1
+abbrev pub μ-left : Measures 7 left-kinds.ps ℕ
+μ-left κs a = 70000 * (a .1 .1 .1 .1 .1 .1 .1 .1 .1 .1 .1 .0) + 1
 
-abbrev pub μ-let-in : Measures 2 let-in-kinds.ps ℕ
-μ-let-in κs a = 70000 * (a .1 .1 .1 .1 .1 .1 .1 .0) + 1
+abbrev pub μ-let-in : Measures 7 let-in-kinds.ps ℕ
+μ-let-in κs a = 70000 * (a .1 .1 .1 .1 .1 .1 .1 .1 .1 .1 .1 .1 .0) + 1
 
-abbrev pub μ-pair : Measures 2 pair-kinds.ps ℕ
-μ-pair κs a = 70000 * (a .1 .1 .1 .1 .1 .1 .1 .0) + 1
+abbrev pub μ-pair : Measures 7 pair-kinds.ps ℕ
+μ-pair κs a = 70000 * (a .1 .1 .1 .1 .1 .1 .1 .1 .1 .1 .1 .1 .0) + 1
 
-abbrev pub μ-parts : Measures 2 parts-kinds.ps ℕ
-μ-parts κs a = 70000 * (a .1 .1 .1 .1 .1 .1 .0) + 2 + (a .1 .1 .1 .1 .1 .0)
+abbrev pub μ-parts : Measures 7 parts-kinds.ps ℕ
+μ-parts κs a = 70000 * (a .1 .1 .1 .1 .1 .1 .1 .1 .1 .1 .1 .0) + 2 + (a .1 .1 .1 .1 .1 .1 .1 .1 .1 .1 .0)
 
-abbrev pub μ-right : Measures 2 right-kinds.ps ℕ
-μ-right κs a = 70000 * (a .1 .1 .1 .1 .1 .1 .0) + 1
+abbrev pub μ-right : Measures 7 right-kinds.ps ℕ
+μ-right κs a = 70000 * (a .1 .1 .1 .1 .1 .1 .1 .1 .1 .1 .1 .0) + 1
 
-abbrev pub μ-snapshot : Measures 2 snapshot-kinds.ps ℕ
-μ-snapshot κs a = 70000 * (a .1 .1 .1 .1 .1 .1 .0) + 1
+abbrev pub μ-snapshot : Measures 7 snapshot-kinds.ps ℕ
+μ-snapshot κs a = 70000 * (a .1 .1 .1 .1 .1 .1 .1 .1 .1 .1 .1 .0) + 1
 
-abbrev pub μ-statement : Measures 2 statement-kinds.ps ℕ
-μ-statement κs a = 70000 * (a .1 .1 .1 .1 .1 .1 .0)
+abbrev pub μ-statement : Measures 7 statement-kinds.ps ℕ
+μ-statement κs a = 70000 * (a .1 .1 .1 .1 .1 .1 .1 .1 .1 .1 .1 .0)
 
-abbrev pub μ-test : Measures 2 test-kinds.ps ℕ
-μ-test κs a = 70000 * (a .1 .1 .1 .1 .1 .1 .1 .1 .1 .0) + 1
+abbrev pub μ-test : Measures 7 test-kinds.ps ℕ
+μ-test κs a = 70000 * (a .1 .1 .1 .1 .1 .1 .1 .1 .1 .1 .1 .1 .1 .1 .0) + 1
 
-abbrev pub children-at : ℕ → In 2 children-kinds.ps
-children-at t = and 2 children-kinds.ps (is 2 children-kinds.ps μ-children t) children-reads.Pre
+abbrev pub children-at : ℕ → In 7 children-kinds.ps
+children-at t = and 7 children-kinds.ps (is 7 children-kinds.ps μ-children t) children-reads.Pre
 
-abbrev pub children-below : ℕ → In 2 children-kinds.ps
-children-below t = and 2 children-kinds.ps (falls 2 children-kinds.ps _<_ μ-children t) children-reads.Pre
+abbrev pub children-below : ℕ → In 7 children-kinds.ps
+children-below t = and 7 children-kinds.ps (falls 7 children-kinds.ps _<_ μ-children t) children-reads.Pre
 
-abbrev pub choose-at : ℕ → In 2 choose-kinds.ps
-choose-at t = and 2 choose-kinds.ps (is 2 choose-kinds.ps μ-choose t) choose-reads.Pre
+abbrev pub choose-at : ℕ → In 7 choose-kinds.ps
+choose-at t = and 7 choose-kinds.ps (is 7 choose-kinds.ps μ-choose t) choose-reads.Pre
 
-abbrev pub choose-below : ℕ → In 2 choose-kinds.ps
-choose-below t = and 2 choose-kinds.ps (falls 2 choose-kinds.ps _<_ μ-choose t) choose-reads.Pre
+abbrev pub choose-below : ℕ → In 7 choose-kinds.ps
+choose-below t = and 7 choose-kinds.ps (falls 7 choose-kinds.ps _<_ μ-choose t) choose-reads.Pre
 
-abbrev pub either-at : ℕ → In 2 either-kinds.ps
-either-at t = and 2 either-kinds.ps (is 2 either-kinds.ps μ-either t) either-reads.Pre
+abbrev pub either-at : ℕ → In 7 either-kinds.ps
+either-at t = and 7 either-kinds.ps (is 7 either-kinds.ps μ-either t) either-reads.Pre
 
-abbrev pub either-below : ℕ → In 2 either-kinds.ps
-either-below t = and 2 either-kinds.ps (falls 2 either-kinds.ps _<_ μ-either t) either-reads.Pre
+abbrev pub either-below : ℕ → In 7 either-kinds.ps
+either-below t = and 7 either-kinds.ps (falls 7 either-kinds.ps _<_ μ-either t) either-reads.Pre
 
-abbrev pub left-at : ℕ → In 2 left-kinds.ps
-left-at t = and 2 left-kinds.ps (is 2 left-kinds.ps μ-left t) left-reads.Pre
+abbrev pub left-at : ℕ → In 7 left-kinds.ps
+left-at t = and 7 left-kinds.ps (is 7 left-kinds.ps μ-left t) left-reads.Pre
 
-abbrev pub left-below : ℕ → In 2 left-kinds.ps
-left-below t = and 2 left-kinds.ps (falls 2 left-kinds.ps _<_ μ-left t) left-reads.Pre
+abbrev pub left-below : ℕ → In 7 left-kinds.ps
+left-below t = and 7 left-kinds.ps (falls 7 left-kinds.ps _<_ μ-left t) left-reads.Pre
 
-abbrev pub let-in-at : ℕ → In 2 let-in-kinds.ps
-let-in-at t = and 2 let-in-kinds.ps (is 2 let-in-kinds.ps μ-let-in t) let-in-reads.Pre
+abbrev pub let-in-at : ℕ → In 7 let-in-kinds.ps
+let-in-at t = and 7 let-in-kinds.ps (is 7 let-in-kinds.ps μ-let-in t) let-in-reads.Pre
 
-abbrev pub let-in-below : ℕ → In 2 let-in-kinds.ps
-let-in-below t = and 2 let-in-kinds.ps (falls 2 let-in-kinds.ps _<_ μ-let-in t) let-in-reads.Pre
+abbrev pub let-in-below : ℕ → In 7 let-in-kinds.ps
+let-in-below t = and 7 let-in-kinds.ps (falls 7 let-in-kinds.ps _<_ μ-let-in t) let-in-reads.Pre
 
-abbrev pub pair-at : ℕ → In 2 pair-kinds.ps
-pair-at t = and 2 pair-kinds.ps (is 2 pair-kinds.ps μ-pair t) pair-reads.Pre
+abbrev pub pair-at : ℕ → In 7 pair-kinds.ps
+pair-at t = and 7 pair-kinds.ps (is 7 pair-kinds.ps μ-pair t) pair-reads.Pre
 
-abbrev pub pair-below : ℕ → In 2 pair-kinds.ps
-pair-below t = and 2 pair-kinds.ps (falls 2 pair-kinds.ps _<_ μ-pair t) pair-reads.Pre
+abbrev pub pair-below : ℕ → In 7 pair-kinds.ps
+pair-below t = and 7 pair-kinds.ps (falls 7 pair-kinds.ps _<_ μ-pair t) pair-reads.Pre
 
-abbrev pub parts-at : ℕ → In 2 parts-kinds.ps
-parts-at t = and 2 parts-kinds.ps (is 2 parts-kinds.ps μ-parts t) parts-reads.Pre
+abbrev pub parts-at : ℕ → In 7 parts-kinds.ps
+parts-at t = and 7 parts-kinds.ps (is 7 parts-kinds.ps μ-parts t) parts-reads.Pre
 
-abbrev pub parts-below : ℕ → In 2 parts-kinds.ps
-parts-below t = and 2 parts-kinds.ps (falls 2 parts-kinds.ps _<_ μ-parts t) parts-reads.Pre
+abbrev pub parts-below : ℕ → In 7 parts-kinds.ps
+parts-below t = and 7 parts-kinds.ps (falls 7 parts-kinds.ps _<_ μ-parts t) parts-reads.Pre
 
-abbrev pub right-at : ℕ → In 2 right-kinds.ps
-right-at t = and 2 right-kinds.ps (is 2 right-kinds.ps μ-right t) right-reads.Pre
+abbrev pub right-at : ℕ → In 7 right-kinds.ps
+right-at t = and 7 right-kinds.ps (is 7 right-kinds.ps μ-right t) right-reads.Pre
 
-abbrev pub right-below : ℕ → In 2 right-kinds.ps
-right-below t = and 2 right-kinds.ps (falls 2 right-kinds.ps _<_ μ-right t) right-reads.Pre
+abbrev pub right-below : ℕ → In 7 right-kinds.ps
+right-below t = and 7 right-kinds.ps (falls 7 right-kinds.ps _<_ μ-right t) right-reads.Pre
 
-abbrev pub snapshot-at : ℕ → In 2 snapshot-kinds.ps
-snapshot-at t = and 2 snapshot-kinds.ps (is 2 snapshot-kinds.ps μ-snapshot t) snapshot-reads.Pre
+abbrev pub snapshot-at : ℕ → In 7 snapshot-kinds.ps
+snapshot-at t = and 7 snapshot-kinds.ps (is 7 snapshot-kinds.ps μ-snapshot t) snapshot-reads.Pre
 
-abbrev pub snapshot-below : ℕ → In 2 snapshot-kinds.ps
-snapshot-below t = and 2 snapshot-kinds.ps (falls 2 snapshot-kinds.ps _<_ μ-snapshot t) snapshot-reads.Pre
+abbrev pub snapshot-below : ℕ → In 7 snapshot-kinds.ps
+snapshot-below t = and 7 snapshot-kinds.ps (falls 7 snapshot-kinds.ps _<_ μ-snapshot t) snapshot-reads.Pre
 
-abbrev pub statement-at : ℕ → In 2 statement-kinds.ps
-statement-at t = and 2 statement-kinds.ps (is 2 statement-kinds.ps μ-statement t) statement-reads.Pre
+abbrev pub statement-at : ℕ → In 7 statement-kinds.ps
+statement-at t = and 7 statement-kinds.ps (is 7 statement-kinds.ps μ-statement t) statement-reads.Pre
 
-abbrev pub statement-below : ℕ → In 2 statement-kinds.ps
-statement-below t = and 2 statement-kinds.ps (falls 2 statement-kinds.ps _<_ μ-statement t) statement-reads.Pre
+abbrev pub statement-below : ℕ → In 7 statement-kinds.ps
+statement-below t = and 7 statement-kinds.ps (falls 7 statement-kinds.ps _<_ μ-statement t) statement-reads.Pre
 
-abbrev pub test-at : ℕ → In 2 test-kinds.ps
-test-at t = and 2 test-kinds.ps (is 2 test-kinds.ps μ-test t) test-reads.Pre
+abbrev pub test-at : ℕ → In 7 test-kinds.ps
+test-at t = and 7 test-kinds.ps (is 7 test-kinds.ps μ-test t) test-reads.Pre
 
-abbrev pub test-below : ℕ → In 2 test-kinds.ps
-test-below t = and 2 test-kinds.ps (falls 2 test-kinds.ps _<_ μ-test t) test-reads.Pre
+abbrev pub test-below : ℕ → In 7 test-kinds.ps
+test-below t = and 7 test-kinds.ps (falls 7 test-kinds.ps _<_ μ-test t) test-reads.Pre
 
 abbrev pub children-claims : ℕ → children-lts.Claims
 children-claims t = (atom-of-called.Asked, atom-of-called.Learnt, statement-below t, statement-reads.Post, write-called.Asked, write-called.Learnt)

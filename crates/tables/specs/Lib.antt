@@ -1,0 +1,2 @@
+-- The sheet's tables, made once.
+pub mod Lent
