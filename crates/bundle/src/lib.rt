@@ -22,13 +22,13 @@ fn need_in(p: &[u8], size: usize) -> usize
     sheet::need_of(&p[..size])
 }
 
-pub enum Opened {
+enum Opened {
     Sheet(usize),
     Refused,
 }
 
 // Opens a bundle: its payload goes to `out`; the sheet is as many bytes of it as are answered, unless a test fails.
-pub fn open(b: &[u8], out: &mut [u8; 44704]) -> Opened
+fn open(b: &[u8], out: &mut [u8; 44704]) -> Opened
     ensures { λ r. ⌜ Opens (now (b .entry)) (now (out .exit)) r ⌝ }
 {
     let n = b.len();

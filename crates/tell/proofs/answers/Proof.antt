@@ -1,6 +1,8 @@
--- `tell::answers` is safe: what was opened lies inside the payload.
+-- `tell::answers` is safe: what was read lies in the tables.
 use mathlib.Core.Path.{sym}
+use native.Mathlib.Omega.{arith}
 use lib.Seq.{length-take-le}
+use Rattle.bundle.specs.Reads.{read-held}
 use borrow.Author.Needs.{needs}
 use Rattle.tell.proofs.answers.Statement.{statement}
 use Rattle.tell.proofs.answers.Tie as tie
@@ -14,28 +16,35 @@ read-full-requires c κs = search needs
 array-share-prefix-input : tie.Need-array-share-prefix-input
 array-share-prefix-input c = search needs
 
-slice-aggregate-open : tie.Need-slice-aggregate-open
-slice-aggregate-open c = search needs
+slice-aggregate-read : tie.Need-slice-aggregate-read
+slice-aggregate-read c = search needs
 
-open-requires : tie.Need-open-requires
-open-requires c κs = search needs
+slice-aggregate-read-2 : tie.Need-slice-aggregate-read-2
+slice-aggregate-read-2 c = search needs
 
-enum-told : tie.Need-enum-told
-enum-told c = search needs
+read-requires : tie.Need-read-requires
+read-requires c κs = search needs
+
+copied-requires : tie.Need-copied-requires
+copied-requires c κs = search needs
 
 read-line-requires : tie.Need-read-line-requires
 read-line-requires c κs = search needs
 
-enum-known-need : tie.Need-enum-known-need
-enum-known-need c = search needs
+enum-told : tie.Need-enum-told
+enum-told c = search needs
 
-array-share-prefix-payload : tie.Need-array-share-prefix-payload
-array-share-prefix-payload c = let o = rw (c .before .need .given .1) at (c .before .before .before .«open» .ensures) in o .by .3
+slice-aggregate-need-of : tie.Need-slice-aggregate-need-of
+slice-aggregate-need-of c = search needs
+
+need-of-requires : tie.Need-need-of-requires
+need-of-requires c κs = search needs
+
+array-share-prefix-tables : tie.Need-array-share-prefix-tables
+array-share-prefix-tables c = omega (arith, c .need-of .ensures .0, (read-held _ _ (c .before .before .before .before .before .before .before .read .ensures) (c .before .before .enum-told .given .1)) .is-long)
 
 slice-aggregate-sheet-answers : tie.Need-slice-aggregate-sheet-answers
-slice-aggregate-sheet-answers c =
-    let o = rw (c .before .before .need .given .1) at (c .before .before .before .before .«open» .ensures) in
-    sym (length-take-le _ _ (o .by .3))
+slice-aggregate-sheet-answers c = sym (length-take-le _ _ (omega (arith, c .before .need-of .ensures .0, (read-held _ _ (c .before .before .before .before .before .before .before .before .read .ensures) (c .before .before .before .enum-told .given .1)) .is-long)))
 
 sheet-answers-requires : tie.Need-sheet-answers-requires
 sheet-answers-requires c κs = search needs
@@ -53,12 +62,15 @@ answers-spec =
     slice-aggregate-read-full
     read-full-requires
     array-share-prefix-input
-    slice-aggregate-open
-    open-requires
-    enum-told
+    slice-aggregate-read
+    slice-aggregate-read-2
+    read-requires
+    copied-requires
     read-line-requires
-    enum-known-need
-    array-share-prefix-payload
+    enum-told
+    slice-aggregate-need-of
+    need-of-requires
+    array-share-prefix-tables
     slice-aggregate-sheet-answers
     sheet-answers-requires
     returns

@@ -17,11 +17,17 @@ types-told-requires c κs = search needs
 loop-holds : tie.Need-loop-holds Inv-loop μ-loop
 loop-holds c = tt
 
-fit-answer-requires : tie.Need-fit-answer-requires Inv-loop μ-loop
-fit-answer-requires c κs = search needs
+fit-requires : tie.Need-fit-requires Inv-loop μ-loop
+fit-requires c κs = search needs
+
+fitted-requires : tie.Need-fitted-requires Inv-loop μ-loop
+fitted-requires c κs = search needs
+
+fit-line-requires : tie.Need-fit-line-requires Inv-loop μ-loop
+fit-line-requires c κs = search needs
 
 add-row : tie.Need-add-row Inv-loop μ-loop
-add-row c = omega (arith, c .before .before .before .types-told .ensures .1)
+add-row c = omega (arith, c .before .before .before .before .before .types-told .ensures .1)
 
 loop-less : tie.Need-loop-less Inv-loop μ-loop
 loop-less c = omega arith
@@ -40,7 +46,9 @@ fit-answers-spec =
     μ-loop
     types-told-requires
     loop-holds
-    fit-answer-requires
+    fit-requires
+    fitted-requires
+    fit-line-requires
     add-row
     loop-less
     loop-again
