@@ -1,4 +1,4 @@
-// The questions check and run, whole: the order of refusals, and the rows left behind. Working rows are zeroed in one place, after the answer is known.
+// The questions check, run and apply, whole: the order of refusals, and the rows left behind. Working rows are zeroed in one place, after the answer is known.
 use grown::Found;
 use grown::Halt;
 use room::Handed;
@@ -19,7 +19,7 @@ ghost use Rattle.meaning.specs.Sheet.{scriptOf, sheetOf};
 ghost use Rattle.meaning.specs.Shape.{shapely};
 ghost use Rattle.meaning.specs.Run.{run-walk};
 ghost use Rattle.meaning.specs.Check.{check-walk};
-ghost use Rattle.meaning.specs.Reply.{Loads, done, RunReply, CheckReply};
+ghost use Rattle.meaning.specs.Reply.{Loads, done, RunReply, CheckReply, ApplyReply};
 ghost use Rattle.grown.specs.Finds.{Halted};
 ghost use Rattle.tables.specs.Lent.{Lent};
 ghost use Rattle.sheet.specs.Laid.{Laid};
@@ -29,6 +29,7 @@ ghost use Rattle.desk.specs.Said.{ranReply, Says};
 ghost use Rattle.desk.specs.Load.{Loaded};
 ghost use Rattle.desk.specs.Ends.{MainEnds, leftOf, Begun, Gave};
 ghost use Rattle.desk.specs.Checking.{checkedReply, leftIn, CheckBegun, Concludes};
+ghost use Rattle.desk.specs.Applying.{appliedReply, Applies};
 
 // What a run says: its refusal or Done, with its units and the result's root.
 pub enum Ran {
@@ -251,6 +252,68 @@ pub fn check(s: &[u8], work: &mut [u8]) -> Checked
     ensures { λ c. ⌜ CheckReply (now (s .entry)) (now (work .entry)) (checkedReply c (now (work .exit))) ⌝ }
 {
     let answer = check_judged(s, work);
+    clear(work);
+    answer
+}
+
+// What apply says: the check's refusal; Unfit; or, beside the check's units, what the run says.
+pub enum Applied {
+    Unchecked(Checked),
+    Unfit(usize),
+    Ran(usize, Ran),
+}
+
+// A sound sheet's apply, by its tables: the check, the forest against A, the run; the first refusal ends it.
+fn in_turn(
+    s: &[u8],
+    l: Layout,
+    work: &mut [u8],
+    result: &mut [u8],
+    first: &[u64; 4617],
+    behind: &[u64; 4617],
+    class: &[u16; 1026],
+    same: &[u64; 4617],
+    kin: &[u16; 576],
+) -> Applied
+    requires { ⌜ (shapely (now s) ≡ true) × (Laid (now s) l) × (Loads (now s) done) ⌝ }
+    requires { ⌜ Lent (now s) (now first) (now behind) (now class) (now same) (now kin) ⌝ }
+    ensures { λ a. ⌜ Applies (now (s .entry)) (now (work .entry)) (now (result .entry)) a (now (result .exit)) ⌝ }
+{
+    let checked = typed(s, l, work, first, behind, class, same, kin);
+    let Checked::Done(units) = checked else {
+        return Applied::Unchecked(checked);
+    };
+    if !fit::of_type(s, l, l.a, first, behind, behind, class, same) {
+        return Applied::Unfit(units);
+    }
+    Applied::Ran(units, walked(s, l, work, result))
+}
+
+// Refusals 2, 3 and 4, once; then the three questions.
+fn apply_judged(s: &[u8], work: &mut [u8], result: &mut [u8]) -> Applied
+    ensures { λ a. ⌜ Applies (now (s .entry)) (now (work .entry)) (now (result .entry)) a (now (result .exit)) ⌝ }
+{
+    if !shape::shapely(s) {
+        return Applied::Unchecked(Checked::Shape);
+    }
+    let l = sheet::lay_out(s);
+    let mut first = [0u64; 4617];
+    let mut behind = [0u64; 4617];
+    let mut class = [0u16; 1026];
+    let mut same = [0u64; 4617];
+    let mut kin = [0u16; 576];
+    match tables::judge(s, l, &mut first, &mut behind, &mut class, &mut same, &mut kin) {
+        Soundness::Barren(x) => Applied::Unchecked(Checked::Barren(x)),
+        Soundness::Tie(t) => Applied::Unchecked(Checked::Tie(t)),
+        Soundness::Done => in_turn(s, l, work, result, &first, &behind, &class, &same, &kin),
+    }
+}
+
+// The edited forest of a script that the check passes, on a forest of A.
+pub fn apply(s: &[u8], work: &mut [u8], result: &mut [u8]) -> Applied
+    ensures { λ a. ⌜ ApplyReply (now (s .entry)) (now (work .entry)) (now (result .entry)) (appliedReply a (now (result .exit)) (now (work .exit))) ⌝ }
+{
+    let answer = apply_judged(s, work, result);
     clear(work);
     answer
 }

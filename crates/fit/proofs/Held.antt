@@ -1,5 +1,5 @@
 -- On a shaped sheet with no tie no type row has one: every row's words stand inside the words of a declared type or a content, so its rivals would be rivals there. By induction on rows, from the last down: a row's user is higher.
-use Prim.Native.Nat.{ℕ, zero, suc, _+_, _-_, _<_}
+use Prim.Native.Nat.{ℕ, zero, suc, _+_, _<_}
 use mathlib.Core.Path.{_≡_, _∙_}
 use mathlib.Core.Bool.{true, _&&_}
 use mathlib.Core.List.{List, [], _∷_, _++_, append-assoc, append-nil, eq-nil-or-concat, concat-eq-append}

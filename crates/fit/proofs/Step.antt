@@ -1,18 +1,18 @@
 -- One step of the walk is exact: where no rivals stand at a point, the one place with the tree's head is the only one that the tree can take. From `Single` (Held) and what the tables hold (`Ready`).
 use Prim.Native.Nat.{ℕ, zero, suc, _≤_, _<_}
 use mathlib.Core.Path.{_≡_, refl, sym, _∙_, ap}
-use mathlib.Core.Bool.{Bool, true, false, _&&_, _||_, cond}
-use mathlib.Core.List.{List, []}
+use mathlib.Core.Bool.{Bool, true, false, cond}
+use mathlib.Core.List.{List}
 use mathlib.Core.Logic.{inl, inr}
 use native.Mathlib.Omega.{arith}
 use lib.Dec.{eqb, ltb}
 use lib.ListN.{getD}
-use borrow.Author.Tests.{eqb-true, eq-eqb, ne-eqb, lt-ltb}
+use borrow.Author.Tests.{eqb-true, eq-eqb, lt-ltb}
 use Rattle.meaning.specs.Tests.{inTable}
 use Rattle.meaning.specs.Sheet.{Cells, scriptOf, groveOf}
 use Rattle.meaning.specs.Forest.{Tree, cons, treeForm}
 use Rattle.meaning.specs.Types.{Head}
-use Rattle.meaning.specs.Places.{Model, nullable, first, follows, start, next, headOf, headAt, Admits}
+use Rattle.meaning.specs.Places.{Model, first, follows, start, next, headOf, headAt, Admits}
 use Rattle.meaning.specs.Laws.Bools.{and-left, and-right, and-both, not-both}
 use Rattle.meaning.specs.Laws.Tests.{in-table, table-high}
 use Rattle.meaning.specs.Laws.Rows.{forestAt-suc}
@@ -21,7 +21,6 @@ use Rattle.meaning.specs.Laws.Apart.{first-has, follows-has, model-placed, mode
 use Rattle.meaning.specs.Laws.Points.{has-first, has-follows}
 use Rattle.meaning.specs.Laws.Shaped.{few-types}
 use Rattle.bits.specs.Sets.{inSet}
-use Rattle.sheet.specs.declared.Layout.{Layout}
 use Rattle.places.specs.Tables.{modelOf}
 use Rattle.heads.specs.Heads.{actingAt, headNumber, Acts, acts-text, acts-bool, acts-label}
 use Rattle.fit.specs.Fitting.{treeNumber, Looked, point, treesAt, GoesOn, Inside, Ready, Walks, Walking}
@@ -52,8 +51,7 @@ node-row c r (a-node e p q) k = (rw e p, q)
 
 -- ---- a point of the model at row k, in the tables
 
-module _ {s : List ℕ} {l : Layout} {null firsts behind class same : List ℕ} (R : Ready s l null firsts behind class same)
-    {r₀ k : ℕ} {t : List ℕ} (W : Walks s r₀ k t) where
+module _ {s : List ℕ} {firsts behind class same : List ℕ} (R : Ready s firsts behind class same) {r₀ k : ℕ} {t : List ℕ} (W : Walks s r₀ k t) where
   K : inTable (scriptOf s .types) k ≡ true
   K = W .is-type
 
@@ -77,14 +75,10 @@ module _ {s : List ℕ} {l : Layout} {null firsts behind class same : List ℕ} 
   point-index true a w = omega (arith, w .0 refl, table-high (scriptOf s .types) k K, few-types s (R .shaped))
   point-index false a w = place-high a (w .1 refl)
 
-  point-set : (fresh : Bool) (a : ℕ) → Stands fresh a → (b : ℕ) → 1 ≤ b → b < 576 → inSet (cond fresh firsts t) a b ≡ point m fresh a b
-  point-set true a w b l h = rw (w .0 refl) ((rw (lt-ltb b 576 h) at (R .tables .begin k K b)) ∙ begins (first m b) (nullable m) (eqb 0 b) (ne-eqb 0 b (λ e. omega arith)))
-    where
-      begins : (f n z : Bool) → z ≡ false → f ≡ f || n && z
-      begins true n z e = refl
-      begins false true z e = sym e
-      begins false false z e = refl
-  point-set false a w b l h = W .nexts a (w .1 refl) b h
+  -- the tables have the point's set, End among it
+  pub point-set : (fresh : Bool) (a : ℕ) → Stands fresh a → (b : ℕ) → b < 576 → inSet (cond fresh firsts t) a b ≡ point m fresh a b
+  point-set true a w b h = rw (w .0 refl) (rw (lt-ltb b 576 h) at (R .points .begins k K b))
+  point-set false a w b h = W .nexts a (w .1 refl) b h
 
   point-has : (fresh : Bool) (a b : ℕ) → 1 ≤ b → point m fresh a b ≡ true → has m b ≡ true
   point-has true a b l h = first-has m b (start-first m b l h)
@@ -93,15 +87,6 @@ module _ {s : List ℕ} {l : Layout} {null firsts behind class same : List ℕ} 
   point-single : (fresh : Bool) (c a b : ℕ) → 1 ≤ a → 1 ≤ b → point m fresh c a ≡ true → point m fresh c b ≡ true → head a ≡ head b → a ≡ b
   point-single true c a b p q x y h = single s (R .shaped) (R .untied) k K .begin a b (start-first m a p x) (start-first m b q y) h
   point-single false c a b p q x y h = single s (R .shaped) (R .untied) k K .behind c a b (next-follows m c a p x) (next-follows m c b q y) h
-
-  -- the walk may end: at the start if the model may be empty, and else if End stands behind the place
-  pub end-start : (a : ℕ) → a ≡ k → eqb (getD null a 0) 1 ≡ start m 0
-  end-start a e = rw e (R .tables .empty k K ∙ ends (first m 0) (nullable m) (λ h. omega (arith, place-low 0 (first-has m 0 h))))
-    where
-      ends : (f n : Bool) → (f ≡ true → ⊥) → n ≡ f || n && true
-      ends true n h = absurd (h refl)
-      ends false true h = refl
-      ends false false h = refl
 
   module _ {r : ℕ} {fresh : Bool} {a : ℕ} (Y : Walking s r₀ k r fresh a) (z : r ≡ 0 → ⊥) {b : ℕ}
       (L : Looked (cond fresh firsts t) a (treeNumber (groveOf s .row r)) class same b) where
@@ -168,7 +153,7 @@ module _ {s : List ℕ} {l : Layout} {null firsts behind class same : List ℕ} 
         let h = point-has fresh a x p q in
         let u = place-high x h in
         let y = has-number x h (fits-head (groveOf s .byte) c r (treesAt s (c .q)) (scriptOf s .typeRow) (scriptOf s .nameRow) x sort f) in
-        not-both (and-both (inSet (cond fresh firsts t) a x) (inSet same (getD class (treeNumber c) 0) x) (point-set fresh a w x p (omega arith) ∙ q) (in-class x h y)) (L .none n numbered x p (omega arith))
+        not-both (and-both (inSet (cond fresh firsts t) a x) (inSet same (getD class (treeNumber c) 0) x) (point-set fresh a w x (omega arith) ∙ q) (in-class x h y)) (L .none n numbered x p (omega arith))
 
     pub missed : 576 ≤ b → GoesOn s r m (point m fresh a) → ⊥
     missed n x = missed-rest n (rw trees at x)
@@ -179,7 +164,7 @@ module _ {s : List ℕ} {l : Layout} {null firsts behind class same : List ℕ} 
       found-low = L .here n .1
 
       at-point : point m fresh a b ≡ true
-      at-point = sym (point-set fresh a w b found-low n) ∙ and-left _ _ (L .here n .2)
+      at-point = sym (point-set fresh a w b n) ∙ and-left _ _ (L .here n .2)
 
       pub found-has : has m b ≡ true
       found-has = point-has fresh a b found-low at-point

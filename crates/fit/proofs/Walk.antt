@@ -6,23 +6,21 @@ use mathlib.Core.List.{List}
 use mathlib.Core.Logic.{_↔_}
 use native.Mathlib.Omega.{arith}
 use borrow.Author.Tests.{not-true, not-false}
-use lib.Dec.{eqb}
 use lib.ListN.{getD}
 use Rattle.meaning.specs.Sheet.{Cells, groveOf}
 use Rattle.meaning.specs.Places.{Model, Admits}
 use Rattle.meaning.specs.Laws.Rows.{forestAt-zero}
-use Rattle.meaning.specs.Laws.Wired.{has}
 use Rattle.meaning.specs.Laws.Shaped.{few-types}
 use Rattle.bits.specs.Sets.{inSet}
 use Rattle.sheet.specs.Laid.{cellsOf}
-use Rattle.sheet.specs.declared.Layout.{Layout}
 use Rattle.sheet.specs.declared.Row.{Row}
 use Rattle.places.specs.Tables.{modelOf}
 use Rattle.heads.specs.Heads.{actingAt}
 use Rattle.fit.specs.Fitting.{treeNumber, Looked, point, GoesOn, Inside, Ready, Walks, Walking}
+use Rattle.fit.proofs.Whole.{contents}
 use Rattle.fit.proofs.Step as step
 
-module _ {s : List ℕ} {l : Layout} {null firsts behind class same : List ℕ} (R : Ready s l null firsts behind class same) {r₀ k : ℕ} {t : List ℕ} (W : Walks s r₀ k t) where
+module _ {s : List ℕ} {firsts behind class same : List ℕ} (R : Ready s firsts behind class same) {r₀ k : ℕ} {t : List ℕ} (W : Walks s r₀ k t) where
   pub begins : Walking s r₀ k r₀ true k
   begins = record { low = omega arith; at-start = λ e. refl; at-place = λ e. absurd (false≢true (sym e)); on = λ x. x; back = λ x. x }
 
@@ -42,15 +40,8 @@ module _ {s : List ℕ} {l : Layout} {null firsts behind class same : List ℕ} 
     unfolding Admits
     none-left e = rw (e, forestAt-zero (groveOf s .byte) (groveOf s .row)) (λ x. x, λ x. x)
 
-    end-is : (x : Bool) → x ≡ cond fresh (eqb (getD null a 0) 1) (inSet t a 0) → x ≡ point m fresh a 0
-    end-is x e = e ∙ go fresh (Y .at-start) (Y .at-place)
-      where
-        go : (fresh : Bool) → (fresh ≡ true → a ≡ k) → (fresh ≡ false → has m a ≡ true) → cond fresh (eqb (getD null a 0) 1) (inSet t a 0) ≡ point m fresh a 0
-        go true p q = step.end-start R W a (p refl)
-        go false p q = W .nexts a (q refl) 0 (omega arith)
-
-    pub ended : r ≡ 0 → (x : Bool) → x ≡ cond fresh (eqb (getD null a 0) 1) (inSet t a 0) → x ≡ true ↔ Inside s r₀ k
-    ended z x e = let h = end-is x e in (λ y. Y .back (none-left z .1 (sym h ∙ y)), λ y. h ∙ none-left z .0 (Y .on y))
+    pub ended : r ≡ 0 → (x : Bool) → x ≡ inSet (cond fresh firsts t) a 0 → x ≡ true ↔ Inside s r₀ k
+    ended z x e = let h = e ∙ step.point-set R W fresh a (Y .at-start, Y .at-place) 0 (omega arith) in (λ y. Y .back (none-left z .1 (sym h ∙ y)), λ y. h ∙ none-left z .0 (Y .on y))
 
     module _ (z : r ≡ 0 → ⊥) (c : Row) (C : cellsOf c ≡ groveOf s .row r) {h : ℕ} (H : h ≡ treeNumber (cellsOf c)) {b : ℕ} (L : Looked (cond fresh firsts t) a h class same b) where
       here : Looked (cond fresh firsts t) a (treeNumber (groveOf s .row r)) class same b
@@ -90,22 +81,19 @@ module _ {s : List ℕ} {l : Layout} {null firsts behind class same : List ℕ} 
               (λ e. rw child-is at (f (kind-is ∙ e))) (rw next-is at x));
         }
 
-        module _ (d : Row) (D : cellsOf d ≡ actingAt s b) (K : c .kind ≡ 4) where
-          content-is : d .q ≡ actingAt s b .q
-          content-is = ap (λ (x : Cells). x .q) D
-
+        module _ (q : ℕ) (Q : q ≡ actingAt s b .q) (K : c .kind ≡ 4) where
           pub child : c .q < r
           child = omega (arith, child-is, step.found-child R W Y z here n (sym kind-is ∙ K))
 
-          pub walks : Walks s (c .q) (d .q) behind
+          pub walks : Walks s (c .q) (q) behind
           walks = let x = step.found-content R W Y z here n (sym kind-is ∙ K) in record {
             is-tree = omega (arith, child, Y .low, W .is-tree);
-            is-type = rw content-is (x .1);
-            nexts = rw content-is (R .contents b (x .0));
+            is-type = rw Q (x .1);
+            nexts = rw Q (contents s (R .shaped) (R .points) b (x .0));
           }
 
-          pub filled : (x : Bool) → x ≡ true ↔ Inside s (c .q) (d .q) → not x ≡ false → Filled
-          filled x i e y = rw content-is at (i .0 (not-false x e))
+          pub filled : (x : Bool) → x ≡ true ↔ Inside s (c .q) (q) → not x ≡ false → Filled
+          filled x i e y = rw Q at (i .0 (not-false x e))
 
-          pub outside : (x : Bool) → x ≡ true ↔ Inside s (c .q) (d .q) → not x ≡ true → false ≡ true ↔ Inside s r₀ k
-          outside x i e = (λ y. absurd (false≢true y), λ y. sym (not-true x e) ∙ i .1 (rw (child-is, content-is) (step.taken-on R W Y z here n (Y .on y) .0 (sym kind-is ∙ K))))
+          pub outside : (x : Bool) → x ≡ true ↔ Inside s (c .q) (q) → not x ≡ true → false ≡ true ↔ Inside s r₀ k
+          outside x i e = (λ y. absurd (false≢true y), λ y. sym (not-true x e) ∙ i .1 (rw (child-is, Q) (step.taken-on R W Y z here n (Y .on y) .0 (sym kind-is ∙ K))))

@@ -6,30 +6,29 @@ use mathlib.Core.List.{List}
 use mathlib.Core.Logic.{inl, inr, _↔_, Iff·trans}
 use native.Mathlib.Omega.{arith}
 use lib.Dec.{eqb}
-use lib.ListN.{set, replicate, length-replicate}
+use lib.ListN.{getD, set, replicate, length-replicate}
 use borrow.Author.Tests.{eq-eqb, lt-ltb, not-true, not-false}
 use Rattle.meaning.specs.Tests.{inTable}
 use Rattle.meaning.specs.Sheet.{row3, scriptOf, groveOf, types-of}
 use Rattle.meaning.specs.Forest.{forestOf}
-use Rattle.meaning.specs.Types.{Of, declared, namesIn}
 use Rattle.meaning.specs.Shape.{shapely}
-use Rattle.meaning.specs.Places.{Untied, is-declared}
-use Rattle.meaning.specs.Reply.{Answer, refused, done, shape, Loads, misshapen, sound, Fitted, no-row, unsound}
+use Rattle.meaning.specs.Places.{Model, is-declared}
+use Rattle.meaning.specs.Reply.{Answer, refused, shape, Loads, misshapen, Fitted, no-row, unsound}
 use Rattle.meaning.specs.Laws.Bools.{or-right, and-both, either}
 use Rattle.meaning.specs.Laws.Tests.{in-table, table-low, table-high, some-at}
-use Rattle.meaning.specs.Laws.Wired.{wired-next, ends}
+use Rattle.meaning.specs.Laws.Wired.{Wired, wired-next, ends}
 use Rattle.meaning.specs.Theorems.Places.{places-say}
 use Rattle.barren.specs.Flags.{flag, flag-set}
 use Rattle.meaning.specs.Laws.Shaped.{kind-in, label-row, few-types}
 use Rattle.sheet.specs.Laid.{Laid, outside-low, outside-high}
 use Rattle.sheet.specs.declared.Layout.{Layout}
-use Rattle.places.specs.Sheets.{laid-tables, laid-free, laid-wires}
+use Rattle.places.specs.Sheets.{laid-free, laid-wires}
 use Rattle.ties.specs.Users.{told-free}
-use Rattle.places.specs.Tables.{modelOf, setOf, Tables, Wires, Free}
+use Rattle.places.specs.Tables.{modelOf, setOf, Wires, Free}
+use Rattle.points.specs.Points.{SheetPoints}
 use Rattle.roots.specs.Roots.{isRoot, Rooted}
-use Rattle.heads.specs.Classes.{Classes}
 use Rattle.heads.specs.Heads.{actingAt}
-use Rattle.fit.specs.Fitting.{Nexts, Inside, Ready, Walks}
+use Rattle.fit.specs.Fitting.{Nexts, Inside, Walks, Told, IsOf}
 use Rattle.meaning.specs.Laws.Trees.{root-row}
 
 root-is : {s : List ℕ} {l : Layout} → Laid s l → l .root ≡ groveOf s .root
@@ -40,11 +39,11 @@ types-is : {s : List ℕ} {l : Layout} → Laid s l → l .types ≡ scriptOf s 
 unfolding scriptOf
 types-is laid = laid .types
 
-module _ (s : List ℕ) (e : shapely s ≡ true) where
-  -- the sets of a table that is wired for a root are what may stand behind its places
-  nexts : {root t : List ℕ} {top : ℕ} → Wires (scriptOf s .typeRow) root t top → (r : ℕ) → 1 ≤ r → r ≤ top → flag root r ≡ true → Nexts t (modelOf s r)
-  nexts {t = t} w r p q f a h b l = rw (lt-ltb b 576 l) at (wired-next (setOf t) (modelOf s r) ends (w .wired r p q f) a h b)
+-- the sets of a table that is wired for a model are what may stand behind its places
+nexts : (t : List ℕ) (m : Model) → Wired (setOf t) m ends → Nexts t m
+nexts t m w a h b l = rw (lt-ltb b 576 l) at (wired-next (setOf t) m ends w a h b)
 
+module _ (s : List ℕ) (e : shapely s ≡ true) where
   content-asked : (i : ℕ) → scriptOf s .typeRow i .kind ≡ 4 → isRoot s (scriptOf s .typeRow i .q) ≡ true
   content-asked i k =
       let h = kind-in s i 3 k in
@@ -53,32 +52,20 @@ module _ (s : List ℕ) (e : shapely s ≡ true) where
       (and-both (eqb (scriptOf s .typeRow i .kind) 4) (eqb q q) (eq-eqb (scriptOf s .typeRow i .kind) 4 k) (eq-eqb q q refl)))
 
   -- the content of a row of kind 4: a root, and a row of the table
-  module _ {l : Layout} (laid : Laid s l) {root behind : List ℕ} (rooted : Rooted s root) (wires : Wires (row3 s (l .«types_at») (l .types)) root behind (l .types)) where
+  module _ {first behind : List ℕ} (P : SheetPoints s first behind) where
     content-nexts : (i : ℕ) → scriptOf s .typeRow i .kind ≡ 4 → Nexts behind (modelOf s (scriptOf s .typeRow i .q))
     content-nexts i k =
-        let h = kind-in s i 3 k in
         let x = label-row s e i k .1 in
         let q = scriptOf s .typeRow i .q in
-        let u : q < 513 = omega (arith, x .lower, table-high (scriptOf s .types) i h, few-types s e) in
-        nexts (laid-wires laid wires) q (x .low) (omega (arith, x .lower, table-high (scriptOf s .types) i h, types-is laid)) (rooted .at q u ∙ content-asked i k)
+        nexts behind (modelOf s q) (P .roots q (in-table (scriptOf s .types) q (x .low) (omega (arith, x .lower, table-high (scriptOf s .types) i (kind-in s i 3 k)))) (content-asked i k))
 
-    contents : (a : ℕ) → actingAt s a .kind ≡ 4 → Nexts behind (modelOf s (actingAt s a .q))
+    pub contents : (a : ℕ) → actingAt s a .kind ≡ 4 → Nexts behind (modelOf s (actingAt s a .q))
     contents a = go (eqb (scriptOf s .typeRow a .kind) 8)
       where
         go : (t : Bool) → cond t (scriptOf s .typeRow (scriptOf s .nameRow (scriptOf s .typeRow a .p))) (scriptOf s .typeRow a) .kind ≡ 4
             → Nexts behind (modelOf s (cond t (scriptOf s .typeRow (scriptOf s .nameRow (scriptOf s .typeRow a .p))) (scriptOf s .typeRow a) .q))
         go true k = content-nexts (scriptOf s .nameRow (scriptOf s .typeRow a .p)) k
         go false k = content-nexts a k
-
-    pub ready : {null begin class same : List ℕ} → Untied (scriptOf s) → Tables (row3 s (l .«types_at») (l .types)) (l .types) null begin → Classes s class same → Ready s l null begin behind class same
-    ready untied tables classes = record {
-      laid = laid;
-      shaped = e;
-      untied = untied;
-      tables = laid-tables laid tables;
-      contents = contents;
-      classes = classes;
-    }
 
   -- the told row alone: no side of a lower row is it
   module _ (told : ℕ) (t : inTable (scriptOf s .types) told ≡ true) where
@@ -94,23 +81,24 @@ module _ (s : List ℕ) (e : shapely s ≡ true) where
     pub told-alone : {l : Layout} → Laid s l → Free (row3 s (l .«types_at») (l .types)) (set (replicate 513 0) told 1) told
     told-alone laid = laid-free laid (set (replicate 513 0) told 1) told (told-free s e told (table-high (scriptOf s .types) told t))
 
-    pub told-walks : {l : Layout} {next : List ℕ} → Laid s l → Wires (row3 s (l .«types_at») (l .types)) (set (replicate 513 0) told 1) next told → Walks s (l .root) told next
-    told-walks laid w = record {
-      is-tree = omega (arith, root-row s e, root-is laid);
-      is-type = t;
-      nexts = nexts (laid-wires laid w) told (table-low (scriptOf s .types) told t) (omega arith) told-flag;
-    }
+    pub told-wired : {l : Layout} {next : List ℕ} → Laid s l → Wires (row3 s (l .«types_at») (l .types)) (set (replicate 513 0) told 1) next told → Wired (setOf next) (modelOf s told) ends
+    told-wired laid w = laid-wires laid w .wired told (table-low (scriptOf s .types) told t) (omega arith) told-flag
 
-    pub of-type : {l : Layout} (b : Bool) → Laid s l → b ≡ true ↔ Inside s (l .root) told → b ≡ true ↔ Of (namesIn (scriptOf s)) (declared (scriptOf s) told) (forestOf (groveOf s))
-    of-type b laid x = Iff·trans (rw (root-is laid) at x) (places-say s e told (forestOf (groveOf s)))
+    pub told-root : {first behind root : List ℕ} → SheetPoints s first behind → Rooted s root → getD root told 0 ≡ 1 → Wired (setOf behind) (modelOf s told) ends
+    told-root {root = root} P R h = P .roots told t (sym (R .at told told-index) ∙ eq-eqb (getD root told 0) 1 h)
+
+-- the question, in the walk's words
+module _ {s : List ℕ} {l : Layout} {told : ℕ} {first behind class same : List ℕ} (T : Told s l told first behind class same) where
+  pub walked : {next : List ℕ} → Wired (setOf next) (modelOf s told) ends → Walks s (l .root) told next
+  walked {next} w = record { is-tree = omega (arith, root-row s (T .ready .shaped), root-is (T .laid)); is-type = T .is-type; nexts = nexts next (modelOf s told) w }
+
+  pub of-type : (b : Bool) → b ≡ true ↔ Inside s (l .root) told → IsOf s told b
+  of-type b x = Iff·trans (rw (root-is (T .laid)) at x) (places-say s (T .ready .shaped) told (forestOf (groveOf s)))
 
 -- ---- the answer
 
 pub is-shaped : (s : List ℕ) (b : Bool) → b ≡ shapely s → not b ≡ false → shapely s ≡ true
 is-shaped s b x y = sym x ∙ not-false b y
-
-pub untied-of : {s : List ℕ} → Loads s done → Untied (scriptOf s)
-untied-of (sound e b u) = u
 
 -- an answer by another name
 pub loads-as : {s : List ℕ} {a b : Answer} → a ≡ b → Loads s a → Loads s b

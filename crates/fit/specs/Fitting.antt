@@ -3,16 +3,20 @@ use Prim.Native.Nat.{ℕ, _≤_, _<_}
 use mathlib.Core.Path.{_≡_}
 use mathlib.Core.Bool.{Bool, true, false}
 use mathlib.Core.List.{List, [], _∷_}
+use mathlib.Core.Logic.{_↔_}
 use lib.ListN.{getD}
 use Rattle.meaning.specs.Tests.{inTable}
 use Rattle.meaning.specs.Sheet.{Cells, scriptOf, groveOf}
-use Rattle.meaning.specs.Forest.{Forest, forestAt}
+use Rattle.meaning.specs.Forest.{Forest, forestAt, forestOf}
+use Rattle.meaning.specs.Types.{Of, declared, namesIn}
 use Rattle.meaning.specs.Shape.{shapely}
 use Rattle.meaning.specs.Places.{Model, Set, start, next, Admits, Untied}
+use Rattle.meaning.specs.Reply.{Loads, done, sound}
 use Rattle.meaning.specs.Laws.Wired.{has}
 use Rattle.bits.specs.Sets.{inSet, inBoth}
-use Rattle.places.specs.Tables.{modelOf, Tables}
-use Rattle.heads.specs.Heads.{actingAt}
+use Rattle.places.specs.Tables.{modelOf}
+use Rattle.points.specs.Points.{SheetPoints}
+use Rattle.tables.specs.Lent.{Lent}
 use Rattle.heads.specs.Classes.{Classes}
 use Rattle.sheet.specs.Laid.{Laid}
 use Rattle.sheet.specs.declared.Layout.{Layout}
@@ -47,13 +51,11 @@ module _ (s : List ℕ) where
   abbrev pub Inside : ℕ → ℕ → Type 0
   Inside r k = GoesOn r (modelOf s k) (start (modelOf s k))
 
-  -- the tables of a shaped sheet without ties
-  pub record Ready (l : Layout) (null first-sets behind class same : List ℕ) : Type 0 where
-    pub laid : Laid s l
+  -- a shaped sheet without ties, and its tables
+  pub record Ready (first behind class same : List ℕ) : Type 0 where
     pub shaped : shapely s ≡ true
     pub untied : Untied (scriptOf s)
-    pub tables : Tables (scriptOf s .typeRow) (scriptOf s .types) null first-sets
-    pub contents : (a : ℕ) → actingAt s a .kind ≡ 4 → Nexts behind (modelOf s (actingAt s a .q))
+    pub points : SheetPoints s first behind
     pub classes : Classes s class same
 
   -- what a walk over the trees at row r asks: rows of the tables, and the sets of the model at row k
@@ -69,3 +71,17 @@ module _ (s : List ℕ) where
     pub at-place : fresh ≡ false → has (modelOf s k) a ≡ true
     pub on : Inside r₀ k → GoesOn r (modelOf s k) (point (modelOf s k) fresh a)
     pub back : GoesOn r (modelOf s k) (point (modelOf s k) fresh a) → Inside r₀ k
+
+  -- the question: a row of its types besides
+  pub record Told (l : Layout) (told : ℕ) (first behind class same : List ℕ) : Type 0 where
+    pub laid : Laid s l
+    pub is-type : inTable (scriptOf s .types) told ≡ true
+    pub ready : Ready first behind class same
+
+  -- b says whether the sheet's forest is of the type at row told
+  abbrev pub IsOf : ℕ → Bool → Type 0
+  IsOf told b = b ≡ true ↔ Of (namesIn (scriptOf s)) (declared (scriptOf s) told) (forestOf (groveOf s))
+
+-- the tables are as they were lent when 2 to 4 were judged
+pub told-lent : {s : List ℕ} {l : Layout} {told : ℕ} {first behind class same kin : List ℕ} → Laid s l → inTable (scriptOf s .types) told ≡ true → Loads s done → Lent s first behind class same kin → Told s l told first behind class same
+told-lent L t (sound e b u) T = record { laid = L; is-type = t; ready = record { shaped = e; untied = u; points = T .points; classes = T .classes } }

@@ -7,19 +7,17 @@ ghost use mathlib.Core.Path.{_≡_};
 ghost use mathlib.Core.Bool.{true, cond};
 ghost use mathlib.Core.Logic.{_↔_};
 ghost use Prim.Native.Nat.{ℕ, _≤_, _<_};
-ghost use lib.Dec.{eqb};
 ghost use lib.ListN.{getD};
 ghost use Rattle.bits.specs.Sets.{inSet};
-ghost use Rattle.meaning.specs.Tests.{inTable};
-ghost use Rattle.meaning.specs.Sheet.{scriptOf, groveOf};
-ghost use Rattle.meaning.specs.Forest.{forestOf};
-ghost use Rattle.meaning.specs.Types.{Of, declared, namesIn};
-ghost use Rattle.meaning.specs.Shape.{shapely};
-ghost use Rattle.meaning.specs.Places.{Untied};
+ghost use Rattle.meaning.specs.Sheet.{groveOf};
 ghost use Rattle.meaning.specs.Reply.{Fitted};
-ghost use Rattle.sheet.specs.Laid.{Laid, cellsOf};
+ghost use Rattle.meaning.specs.Laws.Wired.{Wired, ends};
+ghost use Rattle.sheet.specs.Laid.{cellsOf};
+ghost use Rattle.sheet.specs.Whole.{Whole};
+ghost use Rattle.heads.specs.Heads.{actingAt};
+ghost use Rattle.places.specs.Tables.{modelOf, setOf};
 ghost use Rattle.fit.specs.Answers.{fitOf};
-ghost use Rattle.fit.specs.Fitting.{treeNumber, Looked, Inside, Ready, Walks};
+ghost use Rattle.fit.specs.Fitting.{treeNumber, Looked, Inside, Ready, Walks, Told, IsOf};
 
 // Done, or the refusal: 2, 3 with the name, 4 with the row and its rival, 10.
 pub enum Answer {
@@ -66,45 +64,61 @@ fn place(
     bits::lowest_both(next, a, same, c, 1)
 }
 
-// Whether no tree need stand at a point.
-fn may_end(fresh: bool, a: usize, null: &[u8; 513], next: &[u64; 4617]) -> bool
+// Whether no tree need stand at a point: End is place 0.
+fn may_end(fresh: bool, a: usize, first: &[u64; 4617], next: &[u64; 4617]) -> bool
     requires { ⌜ a ≤ 512 ⌝ }
-    ensures { λ r. ⌜ r ≡ cond fresh (eqb (getD (now (null .entry)) a 0) 1) (inSet (now (next .entry)) a 0) ⌝ }
+    ensures { λ r. ⌜ r ≡ inSet (cond fresh (now (first .entry)) (now (next .entry))) a 0 ⌝ }
 {
     if fresh {
-        return null[a] == 1;
+        return bits::has(first, a, 0);
     }
     bits::has(next, a, 0)
+}
+
+// ---- rows by the header's words: no level of nesting holds a layout
+
+// Row `r` of the forest.
+fn tree_at(s: &[u8], r: usize) -> Row
+    requires { ⌜ Whole (now s) ⌝ }
+    ensures { λ c. ⌜ cellsOf c ≡ groveOf (now (s .entry)) .row r ⌝ }
+{
+    sheet::forest_row(s, sheet::lay_out(s), r)
+}
+
+// The row of the content of place `a`.
+fn content_at(s: &[u8], a: usize) -> usize
+    requires { ⌜ Whole (now s) ⌝ }
+    ensures { λ q. ⌜ q ≡ actingAt (now (s .entry)) a .q ⌝ }
+{
+    heads::acting(s, sheet::lay_out(s), a).q
 }
 
 // Whether the trees at row `r` are of the model at row `k`, whose next sets are in `next`: each tree takes the one place with its head, its children start that place's content.
 fn trees(
     s: &[u8],
-    l: Layout,
     r: usize,
     k: usize,
-    null: &[u8; 513],
     first: &[u64; 4617],
     next: &[u64; 4617],
     behind: &[u64; 4617],
     class: &[u16; 1026],
     same: &[u64; 4617],
 ) -> bool
-    requires { ⌜ Ready (now s) l (now null) (now first) (now behind) (now class) (now same) × Walks (now s) r k (now next) ⌝ }
+    requires { ⌜ Ready (now s) (now first) (now behind) (now class) (now same) × Walks (now s) r k (now next) ⌝ }
     ensures { λ b. ⌜ (b ≡ true ↔ Inside (now (s .entry)) r k) ⌝ }
 {
     let mut r = r;
     let mut a = k;
     let mut fresh = true;
     while r != 0 {
-        let c = sheet::forest_row(s, l, r);
+        let c = tree_at(s, r);
         let b = place(tree_head(c), fresh, a, first, next, class, same);
         if 576 <= b {
             return false;
         }
         if c.kind == 4 {
-            let q = heads::acting(s, l, b).q;
-            if !trees(s, l, c.q, q, null, first, behind, behind, class, same) {
+            let q = content_at(s, b);
+            if !trees(s, c.q, q, first, behind, behind, class, same) {
                 return false;
             }
         }
@@ -112,38 +126,46 @@ fn trees(
         a = b;
         fresh = false;
     }
-    may_end(fresh, a, null, next)
+    may_end(fresh, a, first, next)
 }
 
-// Whether the sheet's forest is of the type at row `told`: `next` has the next sets of that row's model alone, `behind` those of the models of the sheet.
-fn of_type(s: &[u8], l: Layout, told: usize) -> bool
-    requires { ⌜ (shapely (now s) ≡ true) × Laid (now s) l ⌝ }
-    requires { ⌜ Untied (scriptOf (now s)) ⌝ }
-    requires { ⌜ inTable (scriptOf (now s) .types) told ≡ true ⌝ }
-    ensures { λ b. ⌜ (b ≡ true ↔ Of (namesIn (scriptOf (now (s .entry)))) (declared (scriptOf (now (s .entry))) told) (forestOf (groveOf (now (s .entry))))) ⌝ }
+// Whether the sheet's forest is of the type at row `told`, by the sheet's tables (`tables::judge`) and the next sets of that row's model: those of a root are in `behind`.
+pub fn of_type(
+    s: &[u8],
+    l: Layout,
+    told: usize,
+    first: &[u64; 4617],
+    next: &[u64; 4617],
+    behind: &[u64; 4617],
+    class: &[u16; 1026],
+    same: &[u64; 4617],
+) -> bool
+    requires { ⌜ Told (now s) l told (now first) (now behind) (now class) (now same) ⌝ }
+    requires { ⌜ Wired (setOf (now next)) (modelOf (now s) told) ends ⌝ }
+    ensures { λ b. ⌜ IsOf (now (s .entry)) told b ⌝ }
 {
-    let mut null = [0u8; 513];
-    let mut first = [0u64; 4617];
-    let mut root = [0u8; 513];
+    trees(s, l.root, told, first, next, behind, class, same)
+}
+
+// The same for a row inside a type: the next sets of its model alone are made first, over first sets without End.
+fn of_part(
+    s: &[u8],
+    l: Layout,
+    told: usize,
+    first: &[u64; 4617],
+    behind: &[u64; 4617],
+    class: &[u16; 1026],
+    same: &[u64; 4617],
+) -> bool
+    requires { ⌜ Told (now s) l told (now first) (now behind) (now class) (now same) ⌝ }
+    ensures { λ b. ⌜ IsOf (now (s .entry)) told b ⌝ }
+{
     let mut top = [0u8; 513];
-    let mut behind = [0u64; 4617];
+    let mut null = [0u8; 513];
+    let mut begin = [0u64; 4617];
     let mut next = [0u64; 4617];
-    let mut class = [0u16; 1026];
-    let mut same = [0u64; 4617];
     top[told] = 1;
-    places::firsts(s, l.types_at, l.types, 0, &mut null, &mut first);
-    roots::roots(s, l, &mut root);
-    places::behinds(
-        s,
-        l.types_at,
-        l.types,
-        0,
-        l.types,
-        &root,
-        &null,
-        &first,
-        &mut behind,
-    );
+    places::firsts(s, l.types_at, l.types, 0, &mut null, &mut begin);
     places::behinds(
         s,
         l.types_at,
@@ -152,22 +174,31 @@ fn of_type(s: &[u8], l: Layout, told: usize) -> bool
         told,
         &top,
         &null,
-        &first,
+        &begin,
         &mut next,
     );
-    heads::classes(s, l, &mut class, &mut same);
-    trees(
-        s,
-        l,
-        l.root,
-        told,
-        &null,
-        &first,
-        &next,
-        &behind,
-        &class,
-        &same,
-    )
+    of_type(s, l, told, first, &next, behind, class, same)
+}
+
+// The same for any row: what stands behind a root's places is in the sheet's tables.
+fn of_row(
+    s: &[u8],
+    l: Layout,
+    told: usize,
+    first: &[u64; 4617],
+    behind: &[u64; 4617],
+    class: &[u16; 1026],
+    same: &[u64; 4617],
+) -> bool
+    requires { ⌜ Told (now s) l told (now first) (now behind) (now class) (now same) ⌝ }
+    ensures { λ b. ⌜ IsOf (now (s .entry)) told b ⌝ }
+{
+    let mut root = [0u8; 513];
+    roots::roots(s, l, &mut root);
+    if root[told] == 1 {
+        return of_type(s, l, told, first, behind, behind, class, same);
+    }
+    of_part(s, l, told, first, behind, class, same)
 }
 
 // Is the forest of the type at row `told`: Shape where there is no such row, then 2 to 4, then Unfit.
@@ -184,11 +215,24 @@ pub fn fit(s: &[u8], told: usize) -> Answer
     if l.types < told {
         return Answer::Shape;
     }
-    match ties::sound(s, l) {
+    let mut first = [0u64; 4617];
+    let mut behind = [0u64; 4617];
+    let mut class = [0u16; 1026];
+    let mut same = [0u64; 4617];
+    let mut kin = [0u16; 576];
+    match tables::judge(
+        s,
+        l,
+        &mut first,
+        &mut behind,
+        &mut class,
+        &mut same,
+        &mut kin,
+    ) {
         Soundness::Barren(x) => Answer::Barren(x),
         Soundness::Tie(t) => Answer::Tie(t),
         Soundness::Done => {
-            if of_type(s, l, told) {
+            if of_row(s, l, told, &first, &behind, &class, &same) {
                 return Answer::Done;
             }
             Answer::Unfit

@@ -1,5 +1,6 @@
 -- `fit::trees` meets its contract, by recursion on the row of the first tree: children have lower rows. The loop's invariant says that the walk so far is right (`Walking`).
 use native.Mathlib.Omega.{arith}
+use Rattle.sheet.specs.Whole.{whole-shaped}
 use Rattle.fit.specs.Fitting.{Walking}
 use Rattle.fit.proofs.Walk.{begins, few, index, missed, leaf, goes-on, next-lower, child, walks, filled, outside, ended}
 use Prim.Native.Nat.{ℕ, _<_}
@@ -11,35 +12,35 @@ use Rattle.fit.proofs.+trees.Lts-trees as trees-lts
 use Rattle.fit.proofs.may_end.Reads as may-end-reads
 use Rattle.fit.proofs.place.Reads as place-reads
 use Rattle.fit.proofs.tree_head.Reads as tree-head-reads
-use Rattle.heads.proofs.acting.Reads as acting-reads
-use Rattle.sheet.proofs.forest_row.Reads as forest-row-reads
+use Rattle.fit.proofs.content_at.Reads as content-at-reads
+use Rattle.fit.proofs.tree_at.Reads as tree-at-reads
 use Rattle.fit.proofs.+trees.{statement}
 use Rattle.fit.proofs.+trees.Tie.{close}
 
-abbrev μ-trees : Measures 7 trees-kinds.ps ℕ
-μ-trees κs a = a .1 .1 .0
+abbrev μ-trees : Measures 6 trees-kinds.ps ℕ
+μ-trees κs a = a .1 .0
 
-abbrev trees-at : ℕ → In 7 trees-kinds.ps
-trees-at t = and 7 trees-kinds.ps (is 7 trees-kinds.ps μ-trees t) trees.Pre
+abbrev trees-at : ℕ → In 6 trees-kinds.ps
+trees-at t = and 6 trees-kinds.ps (is 6 trees-kinds.ps μ-trees t) trees.Pre
 
-abbrev trees-below : ℕ → In 7 trees-kinds.ps
-trees-below t = and 7 trees-kinds.ps (falls 7 trees-kinds.ps _<_ μ-trees t) trees.Pre
+abbrev trees-below : ℕ → In 6 trees-kinds.ps
+trees-below t = and 6 trees-kinds.ps (falls 6 trees-kinds.ps _<_ μ-trees t) trees.Pre
 
 -- what is asked and learnt at each call
 abbrev called : ℕ → trees-lts.Claims
-called t = (forest-row-reads.Asked, forest-row-reads.Learnt, tree-head-reads.Asked, tree-head-reads.Learnt, place-reads.Asked, place-reads.Learnt, acting-reads.Asked, acting-reads.Learnt, trees-below t, trees.Post, may-end-reads.Asked, may-end-reads.Learnt)
+called t = (tree-at-reads.Asked, tree-at-reads.Learnt, tree-head-reads.Asked, tree-head-reads.Learnt, place-reads.Asked, place-reads.Learnt, content-at-reads.Asked, content-at-reads.Learnt, trees-below t, trees.Post, may-end-reads.Asked, may-end-reads.Learnt)
 
 abbrev trees-Inv-loop : trees-lts.InvT-loop
-trees-Inv-loop s l r k null first next behind class same r₀ a₀ fresh₀ r' a fresh = Walking s r k r' fresh a
+trees-Inv-loop s r k first next behind class same r₀ a₀ fresh₀ r' a fresh = Walking s r k r' fresh a
 
 abbrev trees-μ-loop : trees-lts.MeasureT-loop
-trees-μ-loop s l r k null first next behind class same r₀ a₀ fresh₀ r' a fresh = r'
+trees-μ-loop s r k first next behind class same r₀ a₀ fresh₀ r' a fresh = r'
 
 trees-loop-holds : (t : ℕ) → trees-lts.Need-loop-holds (called t) (trees-at t) trees.Post trees-Inv-loop trees-μ-loop
 trees-loop-holds t c = begins (c .before .pre .1 .0) (c .before .pre .1 .1)
 
-trees-forest-row-requires : (t : ℕ) → trees-lts.Need-forest-row-requires (called t) (trees-at t) trees.Post trees-Inv-loop trees-μ-loop
-trees-forest-row-requires t c κs = c .before .before .before .pre .1 .0 .laid
+trees-tree-at-requires : (t : ℕ) → trees-lts.Need-tree-at-requires (called t) (trees-at t) trees.Post trees-Inv-loop trees-μ-loop
+trees-tree-at-requires t c κs = whole-shaped _ (c .before .before .before .pre .1 .0 .shaped)
 
 trees-tree-head-requires : (t : ℕ) → trees-lts.Need-tree-head-requires (called t) (trees-at t) trees.Post trees-Inv-loop trees-μ-loop
 trees-tree-head-requires t c κs = tt
@@ -50,43 +51,43 @@ trees-place-requires t c κs =
 
 trees-returns : (t : ℕ) → trees-lts.Need-returns (called t) (trees-at t) trees.Post trees-Inv-loop trees-μ-loop
 trees-returns t c =
-    let u = c .before .before .before .before in let p = u .before .before .before .pre .1 in let y = u .before .loop .inv in let f = c .before .before .before .forest-row in let h = c .before .before .tree-head .ensures in let e = c .before .place .ensures in
+    let u = c .before .before .before .before in let p = u .before .before .before .pre .1 in let y = u .before .loop .inv in let f = c .before .before .before .tree-at in let h = c .before .before .tree-head .ensures in let e = c .before .place .ensures in
     missed (p .0) (p .1) y (u .loop-test .taken) (f .result) (f .ensures) h e (c .if1 .taken)
 
-trees-acting-requires : (t : ℕ) → trees-lts.Need-acting-requires (called t) (trees-at t) trees.Post trees-Inv-loop trees-μ-loop
-trees-acting-requires t c κs = c .before .before .before .before .before .before .before .before .before .pre .1 .0 .laid
+trees-content-at-requires : (t : ℕ) → trees-lts.Need-content-at-requires (called t) (trees-at t) trees.Post trees-Inv-loop trees-μ-loop
+trees-content-at-requires t c κs = whole-shaped _ (c .before .before .before .before .before .before .before .before .before .pre .1 .0 .shaped)
 
 trees-trees-requires : (t : ℕ) → trees-lts.Need-trees-requires (called t) (trees-at t) trees.Post trees-Inv-loop trees-μ-loop
 trees-trees-requires t c κs =
-    let u = c .before .before .before .before .before .before .before in let p = u .before .before .before .pre .1 in let y = u .before .loop .inv in let f = c .before .before .before .before .before .before .forest-row in let h = c .before .before .before .before .before .tree-head .ensures in let e = c .before .before .before .before .place .ensures in
-    let d = c .acting in let k = c .before .if2 .taken in let n = c .before .before .before .if1 .left in
+    let u = c .before .before .before .before .before .before .before in let p = u .before .before .before .pre .1 in let y = u .before .loop .inv in let f = c .before .before .before .before .before .before .tree-at in let h = c .before .before .before .before .before .tree-head .ensures in let e = c .before .before .before .before .place .ensures in
+    let d = c .content-at in let k = c .before .if2 .taken in let n = c .before .before .before .if1 .left in
     (omega (arith, child (p .0) (p .1) y (u .loop-test .taken) (f .result) (f .ensures) h e n (d .result) (d .ensures) k, y .low, u .before .before .before .pre .0), (p .0, walks (p .0) (p .1) y (u .loop-test .taken) (f .result) (f .ensures) h e n (d .result) (d .ensures) k))
 
 trees-returns-2 : (t : ℕ) → trees-lts.Need-returns-2 (called t) (trees-at t) trees.Post trees-Inv-loop trees-μ-loop
 trees-returns-2 t c =
-    let u = c .before .before .before .before .before .before .before .before .before in let p = u .before .before .before .pre .1 in let y = u .before .loop .inv in let f = c .before .before .before .before .before .before .before .before .forest-row in let h = c .before .before .before .before .before .before .before .tree-head .ensures in let e = c .before .before .before .before .before .before .place .ensures in
-    let d = c .before .before .acting in
+    let u = c .before .before .before .before .before .before .before .before .before in let p = u .before .before .before .pre .1 in let y = u .before .loop .inv in let f = c .before .before .before .before .before .before .before .before .tree-at in let h = c .before .before .before .before .before .before .before .tree-head .ensures in let e = c .before .before .before .before .before .before .place .ensures in
+    let d = c .before .before .content-at in
     outside (p .0) (p .1) y (u .loop-test .taken) (f .result) (f .ensures) h e (c .before .before .before .before .before .if1 .left) (d .result) (d .ensures) (c .before .before .before .if2 .taken) (c .before .trees .result) (c .before .trees .ensures) (c .if3 .taken)
 
 trees-loop-less : (t : ℕ) → trees-lts.Need-loop-less (called t) (trees-at t) trees.Post trees-Inv-loop trees-μ-loop
 trees-loop-less t c =
-    let u = c .before .before .before .before .before .before .before .before .before in let p = u .before .before .before .pre .1 in let y = u .before .loop .inv in let f = c .before .before .before .before .before .before .before .before .forest-row in let h = c .before .before .before .before .before .before .before .tree-head .ensures in let e = c .before .before .before .before .before .before .place .ensures in
+    let u = c .before .before .before .before .before .before .before .before .before in let p = u .before .before .before .pre .1 in let y = u .before .loop .inv in let f = c .before .before .before .before .before .before .before .before .tree-at in let h = c .before .before .before .before .before .before .before .tree-head .ensures in let e = c .before .before .before .before .before .before .place .ensures in
     next-lower (p .0) (p .1) y (u .loop-test .taken) (f .result) (f .ensures) h e (c .before .before .before .before .before .if1 .left)
 
 trees-loop-again : (t : ℕ) → trees-lts.Need-loop-again (called t) (trees-at t) trees.Post trees-Inv-loop trees-μ-loop
 trees-loop-again t c =
-    let u = c .before .before .before .before .before .before .before .before .before in let p = u .before .before .before .pre .1 in let y = u .before .loop .inv in let f = c .before .before .before .before .before .before .before .before .forest-row in let h = c .before .before .before .before .before .before .before .tree-head .ensures in let e = c .before .before .before .before .before .before .place .ensures in
-    let d = c .before .before .acting in let n = c .before .before .before .before .before .if1 .left in
+    let u = c .before .before .before .before .before .before .before .before .before in let p = u .before .before .before .pre .1 in let y = u .before .loop .inv in let f = c .before .before .before .before .before .before .before .before .tree-at in let h = c .before .before .before .before .before .before .before .tree-head .ensures in let e = c .before .before .before .before .before .before .place .ensures in
+    let d = c .before .before .content-at in let n = c .before .before .before .before .before .if1 .left in
     goes-on (p .0) (p .1) y (u .loop-test .taken) (f .result) (f .ensures) h e n (filled (p .0) (p .1) y (u .loop-test .taken) (f .result) (f .ensures) h e n (d .result) (d .ensures) (c .before .before .before .if2 .taken) (c .before .trees .result) (c .before .trees .ensures) (c .if3 .left))
 
 trees-loop-less-2 : (t : ℕ) → trees-lts.Need-loop-less-2 (called t) (trees-at t) trees.Post trees-Inv-loop trees-μ-loop
 trees-loop-less-2 t c =
-    let u = c .before .before .before .before .before .before in let p = u .before .before .before .pre .1 in let y = u .before .loop .inv in let f = c .before .before .before .before .before .forest-row in let h = c .before .before .before .before .tree-head .ensures in let e = c .before .before .before .place .ensures in
+    let u = c .before .before .before .before .before .before in let p = u .before .before .before .pre .1 in let y = u .before .loop .inv in let f = c .before .before .before .before .before .tree-at in let h = c .before .before .before .before .tree-head .ensures in let e = c .before .before .before .place .ensures in
     next-lower (p .0) (p .1) y (u .loop-test .taken) (f .result) (f .ensures) h e (c .before .before .if1 .left)
 
 trees-loop-again-2 : (t : ℕ) → trees-lts.Need-loop-again-2 (called t) (trees-at t) trees.Post trees-Inv-loop trees-μ-loop
 trees-loop-again-2 t c =
-    let u = c .before .before .before .before .before .before in let p = u .before .before .before .pre .1 in let y = u .before .loop .inv in let f = c .before .before .before .before .before .forest-row in let h = c .before .before .before .before .tree-head .ensures in let e = c .before .before .before .place .ensures in
+    let u = c .before .before .before .before .before .before in let p = u .before .before .before .pre .1 in let y = u .before .loop .inv in let f = c .before .before .before .before .before .tree-at in let h = c .before .before .before .before .tree-head .ensures in let e = c .before .before .before .place .ensures in
     let n = c .before .before .if1 .left in goes-on (p .0) (p .1) y (u .loop-test .taken) (f .result) (f .ensures) h e n (leaf (p .0) (p .1) y (u .loop-test .taken) (f .result) (f .ensures) h e n (c .if2 .left))
 
 trees-may-end-requires : (t : ℕ) → trees-lts.Need-may-end-requires (called t) (trees-at t) trees.Post trees-Inv-loop trees-μ-loop
@@ -97,14 +98,14 @@ trees-returns-3 t c = ended (c .before .before .before .before .pre .1 .0) (c .b
 
 pub +trees-spec : {M : Type 1} → statement M
 +trees-spec = close μ-trees λ t. trees-lts.spec (
-  forest-row-reads.Asked,
-  forest-row-reads.Learnt,
+  tree-at-reads.Asked,
+  tree-at-reads.Learnt,
   tree-head-reads.Asked,
   tree-head-reads.Learnt,
   place-reads.Asked,
   place-reads.Learnt,
-  acting-reads.Asked,
-  acting-reads.Learnt,
+  content-at-reads.Asked,
+  content-at-reads.Learnt,
   trees-below t,
   trees.Post,
   may-end-reads.Asked,
@@ -115,11 +116,11 @@ pub +trees-spec : {M : Type 1} → statement M
     trees-Inv-loop
     trees-μ-loop
     (trees-loop-holds t)
-    (trees-forest-row-requires t)
+    (trees-tree-at-requires t)
     (trees-tree-head-requires t)
     (trees-place-requires t)
     (trees-returns t)
-    (trees-acting-requires t)
+    (trees-content-at-requires t)
     (trees-trees-requires t)
     (trees-returns-2 t)
     (trees-loop-less t)

@@ -1,0 +1,2 @@
+-- An answer of the check's that is not Done.
+pub mod NotDone

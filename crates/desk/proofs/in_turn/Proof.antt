@@ -1,0 +1,44 @@
+-- `desk::in_turn` meets its contract: the check's refusal, Unfit, or what the run says.
+use borrow.Author.Tests.{not-true, not-false}
+use Rattle.fit.specs.Fitting.{told-lent}
+use Rattle.desk.specs.Applying.{applies-unchecked, applies-unfit, applies-ran, a-told, a-wired, a-of}
+use Rattle.desk.proofs.NotDone.{not-done}
+use borrow.Author.Needs.{needs}
+use Rattle.desk.proofs.in_turn.Statement.{statement}
+use Rattle.desk.proofs.in_turn.Tie as tie
+
+typed-requires : tie.Need-typed-requires
+typed-requires c κs = c .before .before .before .before .pre
+
+enum-known-checked : tie.Need-enum-known-checked
+enum-known-checked c = search needs
+
+same-length : tie.Need-same-length
+same-length c = search needs
+
+returns : tie.Need-returns
+returns c = let the-typed = c .before .before .before .typed in applies-unchecked (not-done (the-typed .result) (c .match .keys2)) (the-typed .ensures)
+
+of-type-requires : tie.Need-of-type-requires
+of-type-requires c κs = let the-pre = c .before .before .before .before .before .before .before .before .before .before .pre in (told-lent (the-pre .0 .1) (a-told (the-pre .0 .1) (the-pre .0 .0)) (the-pre .0 .2) (the-pre .1), a-wired (the-pre .0 .1) (the-pre .0 .0) (the-pre .1))
+
+same-length-2 : tie.Need-same-length-2
+same-length-2 c = search needs
+
+returns-2 : tie.Need-returns-2
+returns-2 c = let the-pre = c .before .before .before .before .before .before .before .before .before .before .before .before .pre in let the-of-type = c .before .of-type in applies-unfit (c .before .before .before .checked .given .1) (c .before .before .before .before .before .before .before .typed .ensures) (the-pre .0 .0) (the-pre .0 .2) (a-of (the-pre .0 .1) (the-of-type .ensures)) (not-true (the-of-type .result) (c .if1 .taken))
+
+walked-requires : tie.Need-walked-requires
+walked-requires c κs = c .before .before .before .before .before .before .before .before .before .before .before .before .before .before .pre .0
+
+same-length-3 : tie.Need-same-length-3
+same-length-3 c = search needs
+
+same-length-4 : tie.Need-same-length-4
+same-length-4 c = search needs
+
+returns-3 : tie.Need-returns-3
+returns-3 c = let the-typed = c .before .before .before .before .before .before .before .before .before .before .before .before .before .before .typed in let the-pre = c .before .before .before .before .before .before .before .before .before .before .before .before .before .before .before .before .before .before .before .pre in let the-of-type = c .before .before .before .before .before .before .before .before .of-type in applies-ran (c .before .before .before .before .before .before .before .before .before .before .checked .given .1) (the-typed .ensures) (the-pre .0 .0) (the-pre .0 .2) (a-of (the-pre .0 .1) (the-of-type .ensures)) (not-false (the-of-type .result) (c .before .before .before .before .before .before .before .if1 .left)) (the-typed .kept .1 .1 .0) (c .before .before .before .before .walked .ensures)
+
+pub in-turn-spec : {M : Type 1} → statement M
+in-turn-spec = tie.close (tie.spec typed-requires enum-known-checked same-length returns of-type-requires same-length-2 returns-2 walked-requires same-length-3 same-length-4 returns-3)
