@@ -14,7 +14,7 @@ ghost use mathlib.Core.Bool.{true};
 ghost use mathlib.Core.List.{List};
 ghost use Prim.Native.Nat.{ℕ, _+_, _*_, _≤_, _<_};
 ghost use lib.ListN.{length};
-ghost use Rattle.meaning.specs.Words.{zeroed};
+ghost use Rattle.meaning.specs.Words.{rowsLent, zeroed};
 ghost use Rattle.meaning.specs.Sheet.{scriptOf, sheetOf};
 ghost use Rattle.meaning.specs.Shape.{shapely};
 ghost use Rattle.meaning.specs.Run.{run-walk};
@@ -98,14 +98,11 @@ fn finish(work: &[u8], root: usize, units: usize, result: &mut [u8]) -> Ran
     }
 }
 
-// A sound sheet's run: Scratch first, then the walk, Room last.
+// A sound sheet's run, with rows enough: the walk, Room last.
 fn walked(s: &[u8], l: Layout, work: &mut [u8], result: &mut [u8]) -> Ran
-    requires { ⌜ (shapely (now s) ≡ true) × (Laid (now s) l) × (Loads (now s) done) ⌝ }
+    requires { ⌜ (shapely (now s) ≡ true) × (Laid (now s) l) × (Loads (now s) done) × (l .rows + l .«run_fuel» ≤ rowsLent (now work)) ⌝ }
     ensures { λ r. ⌜ Says (now (s .entry)) (now (work .entry)) (now (result .entry)) r (now (result .exit)) ⌝ }
 {
-    if room::rows_lent(work) < l.rows + l.run_fuel {
-        return Ran::Scratch;
-    }
     match walk_main(s, l, work) {
         Answer::Not(why) => stopped(why, l.run_fuel),
         Answer::Done { root, purse, .. } => {
@@ -115,7 +112,19 @@ fn walked(s: &[u8], l: Layout, work: &mut [u8], result: &mut [u8]) -> Ran
     }
 }
 
-// Refusals 2, 3 and 4, then the run.
+// What a run says where too few rows are lent: 3 and 4 come before Scratch.
+fn unwalked(s: &[u8], l: Layout) -> Ran
+    requires { ⌜ (shapely (now s) ≡ true) × (Laid (now s) l) ⌝ }
+    ensures { λ r. ⌜ ((lent result : List ℕ) → rowsLent lent < l .rows + l .«run_fuel» → Says (now (s .entry)) lent result r result) ⌝ }
+{
+    match ties::sound(s, l) {
+        Soundness::Barren(x) => Ran::Barren(x),
+        Soundness::Tie(t) => Ran::Tie(t),
+        Soundness::Done => Ran::Scratch,
+    }
+}
+
+// Refusals 2, 3, 4 and 12, then the run.
 fn judged(s: &[u8], work: &mut [u8], result: &mut [u8]) -> Ran
     ensures { λ r. ⌜ Says (now (s .entry)) (now (work .entry)) (now (result .entry)) r (now (result .exit)) ⌝ }
 {
@@ -123,6 +132,9 @@ fn judged(s: &[u8], work: &mut [u8], result: &mut [u8]) -> Ran
         return Ran::Shape;
     }
     let l = sheet::lay_out(s);
+    if room::rows_lent(work) < l.rows + l.run_fuel {
+        return unwalked(s, l);
+    }
     match ties::sound(s, l) {
         Soundness::Barren(x) => Ran::Barren(x),
         Soundness::Tie(t) => Ran::Tie(t),
@@ -217,7 +229,16 @@ fn typed(
     if room::rows_lent(work) < fuel {
         return Checked::Scratch;
     }
-    match typing::check(s, work, first, behind, class, same, kin, Purse { left: fuel }) {
+    match typing::check(
+        s,
+        work,
+        first,
+        behind,
+        class,
+        same,
+        kin,
+        Purse { left: fuel },
+    ) {
         Found::Not(why) => halted(why, fuel),
         Found::Done {
             root: _,
@@ -240,7 +261,15 @@ fn check_judged(s: &[u8], work: &mut [u8]) -> Checked
     let mut class = [0u16; 1026];
     let mut same = [0u64; 4617];
     let mut kin = [0u16; 576];
-    match tables::judge(s, l, &mut first, &mut behind, &mut class, &mut same, &mut kin) {
+    match tables::judge(
+        s,
+        l,
+        &mut first,
+        &mut behind,
+        &mut class,
+        &mut same,
+        &mut kin,
+    ) {
         Soundness::Barren(x) => Checked::Barren(x),
         Soundness::Tie(t) => Checked::Tie(t),
         Soundness::Done => typed(s, l, work, &first, &behind, &class, &same, &kin),
@@ -286,6 +315,9 @@ fn in_turn(
     if !fit::of_type(s, l, l.a, first, behind, behind, class, same) {
         return Applied::Unfit(units);
     }
+    if room::rows_lent(work) < l.rows + l.run_fuel {
+        return Applied::Ran(units, Ran::Scratch);
+    }
     Applied::Ran(units, walked(s, l, work, result))
 }
 
@@ -302,7 +334,15 @@ fn apply_judged(s: &[u8], work: &mut [u8], result: &mut [u8]) -> Applied
     let mut class = [0u16; 1026];
     let mut same = [0u64; 4617];
     let mut kin = [0u16; 576];
-    match tables::judge(s, l, &mut first, &mut behind, &mut class, &mut same, &mut kin) {
+    match tables::judge(
+        s,
+        l,
+        &mut first,
+        &mut behind,
+        &mut class,
+        &mut same,
+        &mut kin,
+    ) {
         Soundness::Barren(x) => Applied::Unchecked(Checked::Barren(x)),
         Soundness::Tie(t) => Applied::Unchecked(Checked::Tie(t)),
         Soundness::Done => in_turn(s, l, work, result, &first, &behind, &class, &same, &kin),

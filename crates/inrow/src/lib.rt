@@ -192,6 +192,16 @@ pub fn in_row(
     let mut own_kin = [0u16; 576];
     kin::kins(s, l, own, 0, 512, low, class, &mut own_kin);
     walks(
-        s, l, own, own_first, own_behind, &own_kin, first, behind, kin, same, w,
+        s,
+        l,
+        own,
+        own_first,
+        own_behind,
+        &own_kin,
+        first,
+        behind,
+        kin,
+        same,
+        w,
     )
 }

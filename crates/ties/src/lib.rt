@@ -189,7 +189,17 @@ pub fn make(
 {
     places::firsts(s, l.types_at, l.types, 0, null, first);
     roots::roots(s, l, root);
-    places::behinds(s, l.types_at, l.types, 0, l.types, root, null, first, behind);
+    places::behinds(
+        s,
+        l.types_at,
+        l.types,
+        0,
+        l.types,
+        root,
+        null,
+        first,
+        behind,
+    );
     heads::classes(s, l, class, same);
 }
 

@@ -192,7 +192,19 @@ pub fn declared(
     let mut own_first = [0u64; 4617];
     let mut own_behind = [0u64; 4617];
     points::of_own(&own, low, &mut own_first, &mut own_behind);
-    if inrow::in_row(s, &own, low, &own_first, &own_behind, wanted, first, behind, class, same, kin) {
+    if inrow::in_row(
+        s,
+        &own,
+        low,
+        &own_first,
+        &own_behind,
+        wanted,
+        first,
+        behind,
+        class,
+        same,
+        kin,
+    ) {
         return Judgement::Holds;
     }
     Judgement::Fails
