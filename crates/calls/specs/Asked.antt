@@ -11,7 +11,7 @@ use Rattle.meaning.specs.Sheet.{scriptOf, need}
 use Rattle.meaning.specs.Shape.{shapely}
 use Rattle.meaning.specs.Bundle.{sheetIn}
 use Rattle.meaning.specs.Laws.Bools.{either}
-use Rattle.meaning.specs.Reply.{Answer, refused, shape, answer-code, misshapen, Checked, Fitted, no-row, Ran, Reply, OfBundle, unframed, opened, CheckReply, FitReply, RunReply, read}
+use Rattle.meaning.specs.Reply.{Answer, refused, shape, answer-code, misshapen, Checked, Fitted, no-row, Ran, unchecked, Reply, OfBundle, unframed, opened, CheckReply, FitReply, RunReply, ApplyReply, read}
 use Rattle.bundle.specs.declared.Copied.{Copied}
 use Rattle.bundle.specs.declared.Copied.the-variants.{Done, Block, Shape, Room}
 use Rattle.bundle.specs.Calls.{copiedOf, replied}
@@ -22,8 +22,10 @@ use Rattle.desk.specs.declared.Checked.{Checked as CheckAnswer}
 use Rattle.desk.specs.Checking.{checkedAnswer, checkedUnits, checkedReply}
 use Rattle.desk.specs.declared.Ran.{Ran as RunAnswer}
 use Rattle.desk.specs.Said.{ranAnswer, ranUnits, ranRoot, ranReply}
+use Rattle.desk.specs.declared.Applied.{Applied as ApplyAnswer}
+use Rattle.desk.specs.Applying.{appliedAnswer, firstUnits, lastUnits, appliedRoot, appliedReply}
 use Rattle.calls.specs.declared.Reply.{Reply as Plain}
-use Rattle.calls.specs.Plain.{plain, Gives, Check, Fit, Run}
+use Rattle.calls.specs.Plain.{plain, Gives, Check, Fit, Run, Apply}
 
 -- a reply before any walk: no units, no root, working bytes zero
 abbrev at-once : Answer → List ℕ → List ℕ → Reply
@@ -43,6 +45,9 @@ module _ (s : List ℕ) (e : shapely s ≡ false) where
 
   run-misshapen : (work result : List ℕ) → RunReply s work result (at-once (refused shape) result work)
   run-misshapen work result = record { said = Ran.unsound (misshapen e); no-check = refl; clear = refl }
+
+  apply-misshapen : (work result : List ℕ) → ApplyReply s work result (at-once (refused shape) result work)
+  apply-misshapen work result = record { said = unchecked (Checked.unsound (misshapen e)); clear = refl }
 
 -- ---- refused by the reader
 
@@ -82,6 +87,15 @@ module _ (b lent : List ℕ) {after : List ℕ} where
       work-is = z;
     }
 
+    pub apply-refused : (work result : List ℕ) {w : List ℕ} → w ≡ zeroed work → Gives (Apply b work result) p result w
+    apply-refused work result z = record {
+      reply = at-once (copiedOf r) result work;
+      asked = refused-reply work result (λ s. ApplyReply s work result) (λ e. apply-misshapen (sheetIn b) e work result) r reads room not-done;
+      says = says;
+      result-is = refl;
+      work-is = z;
+    }
+
 -- ---- asked of the sheet that was read
 
 module _ {b after : List ℕ} (held : Held b after) {n : ℕ} (asks : n ≡ need after) where
@@ -97,3 +111,7 @@ module _ {b after : List ℕ} (held : Held b after) {n : ℕ} (asks : n ≡ need
   pub run-asked : (work result : List ℕ) (c : RunAnswer) {p : Plain} {o w : List ℕ} → RunReply (take n after) work result (ranReply c o w) → p ≡ plain (answer-code (ranAnswer c)) 0 (ranUnits c) (ranRoot c)
       → Gives (Run b work result) p o w
   run-asked work result c {o = o} {w = w} a says = record { reply = ranReply c o w; asked = opened (held .is-framed) (rw is-read at a); says = says; result-is = refl; work-is = refl }
+
+  pub apply-asked : (work result : List ℕ) (c : ApplyAnswer) {p : Plain} {o w : List ℕ} → ApplyReply (take n after) work result (appliedReply c o w) → p ≡ plain (answer-code (appliedAnswer c)) (firstUnits c) (lastUnits c) (appliedRoot c)
+      → Gives (Apply b work result) p o w
+  apply-asked work result c {o = o} {w = w} a says = record { reply = appliedReply c o w; asked = opened (held .is-framed) (rw is-read at a); says = says; result-is = refl; work-is = refl }

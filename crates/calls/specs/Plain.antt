@@ -2,8 +2,8 @@
 use Prim.Native.Nat.{ℕ}
 use mathlib.Core.Path.{_≡_, sym, ap, _∙_}
 use mathlib.Core.List.{List, []}
-use Rattle.meaning.specs.Reply.{Coded, answer-code, Copied, Reply, OfBundle, CheckReply, FitReply, RunReply}
-use Rattle.meaning.specs.Theorems.Single.{One, one-bundle-check, one-bundle-fit, one-bundle-run}
+use Rattle.meaning.specs.Reply.{Coded, answer-code, Copied, Reply, OfBundle, CheckReply, FitReply, RunReply, ApplyReply}
+use Rattle.meaning.specs.Theorems.Single.{One, one-bundle-check, one-bundle-fit, one-bundle-run, one-bundle-apply}
 use Rattle.calls.specs.declared.Reply.{Reply as Plain}
 
 abbrev pub plain : Coded → ℕ → ℕ → ℕ → Plain
@@ -33,6 +33,9 @@ Fit b t = OfBundle b [] [] (λ s. FitReply s t)
 abbrev pub Run : List ℕ → List ℕ → List ℕ → Reply → Type 0
 Run b work result = OfBundle b work result (λ s. RunReply s work result)
 
+abbrev pub Apply : List ℕ → List ℕ → List ℕ → Reply → Type 0
+Apply b work result = OfBundle b work result (λ s. ApplyReply s work result)
+
 -- ---- one answer, and one state of every lent byte
 
 module _ {r r′ : Plain} {o o′ w w′ : List ℕ} where
@@ -52,3 +55,6 @@ module _ {r r′ : Plain} {o o′ w w′ : List ℕ} where
 
   pub one-run-call : (b work result : List ℕ) → Gives (Run b work result) r o w → Gives (Run b work result) r′ o′ w′ → (r ≡ r′) × (o ≡ o′) × (w ≡ w′)
   one-run-call b work result = one-given (one-bundle-run b work result)
+
+  pub one-apply-call : (b work result : List ℕ) → Gives (Apply b work result) r o w → Gives (Apply b work result) r′ o′ w′ → (r ≡ r′) × (o ≡ o′) × (w ≡ w′)
+  one-apply-call b work result = one-given (one-bundle-apply b work result)

@@ -1,6 +1,7 @@
 // The calls for C: over a bundle and lent bytes, answered in plain numbers. Block before all else; then the question, on the sheet that the reader gives.
 use bundle::Copied;
 use coded::Coded;
+use desk::Applied;
 use desk::Checked;
 use desk::Ran;
 use fit::Answer;
@@ -13,8 +14,9 @@ ghost use Rattle.bundle.specs.Calls.{copiedOf};
 ghost use Rattle.fit.specs.Answers.{fitOf};
 ghost use Rattle.desk.specs.Checking.{checkedAnswer, checkedUnits};
 ghost use Rattle.desk.specs.Said.{ranAnswer, ranUnits, ranRoot};
+ghost use Rattle.desk.specs.Applying.{appliedAnswer, firstUnits, lastUnits, appliedRoot};
 ghost use Rattle.coded.specs.Numbers.{numbers};
-ghost use Rattle.calls.specs.Plain.{plain, Copies, Gives, Check, Fit, Run};
+ghost use Rattle.calls.specs.Plain.{plain, Copies, Gives, Check, Fit, Run, Apply};
 
 // An answer's number with what it carries, the units of both walks, and the root of a result.
 #[repr(C)]
@@ -66,6 +68,17 @@ fn ran(answer: Ran) -> Reply
         0,
         coded::run_units(answer),
         coded::root(answer),
+    )
+}
+
+fn applied(answer: Applied) -> Reply
+    ensures { λ r. ⌜ r ≡ plain (answer-code (appliedAnswer answer)) (firstUnits answer) (lastUnits answer) (appliedRoot answer) ⌝ }
+{
+    plainly(
+        coded::applied(answer),
+        coded::first_units(answer),
+        coded::last_units(answer),
+        coded::applied_root(answer),
     )
 }
 
@@ -133,4 +146,18 @@ pub extern "C" fn chukelowa_run(bundle: &[u8], work: &mut [u8], result: &mut [u8
     };
     let need = sheet::need_of(&tables);
     ran(desk::run(&tables[..need], work, result))
+}
+
+// The same of a script that the check passes, on a forest of A: any number, with the units of both walks.
+#[no_mangle]
+pub extern "C" fn chukelowa_apply(bundle: &[u8], work: &mut [u8], result: &mut [u8]) -> Reply
+    ensures { λ r. ⌜ Gives (Apply (now (bundle .entry)) (now (work .entry)) (now (result .entry))) r (now (result .exit)) (now (work .exit)) ⌝ }
+{
+    let mut tables = [0u8; 44704];
+    let answer = bundle::read(bundle, &mut tables);
+    let Copied::Done = answer else {
+        return refused(answer, work);
+    };
+    let need = sheet::need_of(&tables);
+    applied(desk::apply(&tables[..need], work, result))
 }

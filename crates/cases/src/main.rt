@@ -1,30 +1,52 @@
 // The answers to stored bundles. The arguments name them, three words a case: the file, and how many working and result rows are lent.
-fn one(name: usize, work: usize, result: usize) {
+use fields::Rows;
+ghost use Prim.Native.Nat.{_<_};
+
+// The answers to the bundle at a path; false where it cannot be read.
+fn file(path: &[u8], work: usize, result: usize) -> bool {
+    let fd = os::open_read(path);
+    if fd < 0 {
+        return false;
+    }
+    let read = tell::answers(fd, work, result);
+    libc::close(fd);
+    read
+}
+
+// A case, with a line before it that repeats its words; false ends the program.
+fn one(name: usize, work: usize, result: usize) -> bool {
     let mut path = io::buffer();
     let n = os::arg(name, &mut path);
-    if os::errno() != 0 {
-        return;
-    }
     io::write_all(1, &path[..n]);
     fields::field(work);
     fields::field(result);
     io::write_all(1, b"\n");
-    let fd = os::open_read(&path[..n]);
-    if fd < 0 {
+    if !file(&path[..n], work, result) {
         os::fail(&path[..n]);
-        return;
+        return false;
     }
-    tell::answers(fd, work, result);
-    libc::close(fd);
+    !fields::failed(b"cases: standard output")
+}
+
+// The case whose first word is argument `at`.
+fn words(at: usize) -> bool
+    requires { ⌜ at < 18446744073709551614 ⌝ }
+{
+    let Rows::Lent(work) = fields::rows_argument(at + 1, 6144) else {
+        fields::usage(b"cases [BUNDLE WORK RESULT]..");
+        return false;
+    };
+    let Rows::Lent(result) = fields::rows_argument(at + 2, 8192) else {
+        fields::usage(b"cases [BUNDLE WORK RESULT]..");
+        return false;
+    };
+    one(at, work, result)
 }
 
 fn main() {
     for i in 0..os::arg_count() / 3 {
-        let at = 3 * i;
-        one(
-            at + 1,
-            fields::rows_argument(at + 2, 6144),
-            fields::rows_argument(at + 3, 8192),
-        );
+        if !words(3 * i + 1) {
+            break;
+        }
     }
 }

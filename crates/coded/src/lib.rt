@@ -1,5 +1,6 @@
 // The numbers: the one place where an answer becomes the number of its refusal, with the two values that it carries. What prints, and the calls for C, go through it.
 use bundle::Copied;
+use desk::Applied;
 use desk::Checked;
 use desk::Ran;
 use fit::Answer;
@@ -9,6 +10,7 @@ ghost use Rattle.bundle.specs.Calls.{copiedOf};
 ghost use Rattle.fit.specs.Answers.{fitOf};
 ghost use Rattle.desk.specs.Checking.{checkedAnswer, checkedUnits};
 ghost use Rattle.desk.specs.Said.{ranAnswer, ranUnits, ranRoot};
+ghost use Rattle.desk.specs.Applying.{appliedAnswer, firstUnits, lastUnits, appliedRoot};
 ghost use Rattle.coded.specs.Numbers.{numbers};
 
 const DONE: usize = 0;
@@ -153,5 +155,49 @@ pub fn root(answer: Ran) -> usize
         Ran::Stuck { .. } => 0,
         Ran::Scratch => 0,
         Ran::Room(_) => 0,
+    }
+}
+
+// Apply's answer: the check's refusal, Unfit, or the run's.
+pub fn applied(answer: Applied) -> Coded
+    ensures { λ r. ⌜ numbers r ≡ answer-code (appliedAnswer answer) ⌝ }
+{
+    match answer {
+        Applied::Unchecked(c) => checked(c),
+        Applied::Unfit(_) => code(UNFIT, 0, 0),
+        Applied::Ran(_, r) => ran(r),
+    }
+}
+
+// The units of its check.
+pub fn first_units(answer: Applied) -> usize
+    ensures { λ r. ⌜ r ≡ firstUnits answer ⌝ }
+{
+    match answer {
+        Applied::Unchecked(c) => check_units(c),
+        Applied::Unfit(units) => units,
+        Applied::Ran(units, _) => units,
+    }
+}
+
+// The units of its run.
+pub fn last_units(answer: Applied) -> usize
+    ensures { λ r. ⌜ r ≡ lastUnits answer ⌝ }
+{
+    match answer {
+        Applied::Unchecked(_) => 0,
+        Applied::Unfit(_) => 0,
+        Applied::Ran(_, r) => run_units(r),
+    }
+}
+
+// The root of its result.
+pub fn applied_root(answer: Applied) -> usize
+    ensures { λ r. ⌜ r ≡ appliedRoot answer ⌝ }
+{
+    match answer {
+        Applied::Unchecked(_) => 0,
+        Applied::Unfit(_) => 0,
+        Applied::Ran(_, r) => root(r),
     }
 }

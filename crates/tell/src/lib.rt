@@ -1,4 +1,4 @@
-// The answers to a bundle, printed a line each in the form that the second program prints: `read N`, `check N UNITS A B`, then `fit ROW N A B` for each type row, then `run N UNITS A B ROOT` with the result's rows.
+// The answers to a bundle, printed a line each in the form that the second program prints: `read N`, `check N UNITS A B`, then `fit ROW N A B` for each type row, then `run N UNITS A B ROOT` with the result's rows, last `apply N CHECK-UNITS RUN-UNITS A B ROOT`.
 use bundle::Copied;
 use coded::Coded;
 use fields::field;
@@ -61,6 +61,27 @@ fn run_answer(s: &[u8], work: &mut [u8], result: &mut [u8]) {
     fields::row_lines(result, root);
 }
 
+fn apply_line(answer: Coded, check_units: usize, run_units: usize, root: usize) {
+    io::write_all(1, b"apply");
+    field(answer.number);
+    field(check_units);
+    field(run_units);
+    field(answer.a);
+    field(answer.b);
+    field(root);
+    io::write_all(1, b"\n");
+}
+
+fn apply_answer(s: &[u8], work: &mut [u8], result: &mut [u8]) {
+    let answer = desk::apply(s, work, result);
+    apply_line(
+        coded::applied(answer),
+        coded::first_units(answer),
+        coded::last_units(answer),
+        coded::applied_root(answer),
+    );
+}
+
 // The bytes of so many rows, of those that there are.
 fn lent(rows: usize, most: usize) -> usize
     requires { ⌜ most ≤ 65536 ⌝ }
@@ -97,21 +118,41 @@ fn run_answers(s: &[u8], work: usize, result: usize) {
     run_answer(s, &mut w[..m], &mut r[..n]);
 }
 
+fn apply_answers(s: &[u8], work: usize, result: usize) {
+    let mut w = working_rows();
+    let mut r = result_rows();
+    let m = lent(work, 6144);
+    let n = lent(result, 65536);
+    apply_answer(s, &mut w[..m], &mut r[..n]);
+}
+
 fn sheet_answers(s: &[u8], work: usize, result: usize) {
     check_answers(s, work);
     fit_answers(s);
     run_answers(s, work, result);
+    apply_answers(s, work, result);
 }
 
-// Reads a bundle from the descriptor, and answers; so many working rows are lent to its check and its run, and so many result rows.
-pub fn answers(fd: i32, work: usize, result: usize) {
-    let mut input = [0u8; 45057];
-    let n = io::read_full(fd, &mut input);
+// The answers to a bundle; so many working rows are lent to its check and its run, and so many result rows.
+fn bundle_answers(bundle: &[u8], work: usize, result: usize) {
     let mut tables = [0u8; 44704];
-    let answer = bundle::read(&input[..n], &mut tables);
+    let answer = bundle::read(bundle, &mut tables);
     read_line(coded::copied(answer));
     if let Copied::Done = answer {
         let need = sheet::need_of(&tables);
         sheet_answers(&tables[..need], work, result);
     }
+}
+
+// Reads a bundle from the descriptor, and answers; false where it cannot be read.
+pub fn answers(fd: i32, work: usize, result: usize) -> bool {
+    let mut input = [0u8; 45057];
+    let n = io::read_full(fd, &mut input);
+    if n < 45057 {
+        if !fields::ended(fd) {
+            return false;
+        }
+    }
+    bundle_answers(&input[..n], work, result);
+    true
 }

@@ -16,26 +16,14 @@ arg-count-requires c κs = search needs
 loop-holds : tie.Need-loop-holds Inv-loop μ-loop
 loop-holds c = search needs
 
-mul-at : tie.Need-mul-at Inv-loop μ-loop
-mul-at c = search needs
+mul-words : tie.Need-mul-words Inv-loop μ-loop
+mul-words c = search needs
 
-add-one : tie.Need-add-one Inv-loop μ-loop
-add-one c = search needs
+add-words : tie.Need-add-words Inv-loop μ-loop
+add-words c = search needs
 
-add-rows-argument : tie.Need-add-rows-argument Inv-loop μ-loop
-add-rows-argument c = search needs
-
-rows-argument-requires : tie.Need-rows-argument-requires Inv-loop μ-loop
-rows-argument-requires c κs = search needs
-
-add-rows-argument-2 : tie.Need-add-rows-argument-2 Inv-loop μ-loop
-add-rows-argument-2 c = search needs
-
-rows-argument-requires-2 : tie.Need-rows-argument-requires-2 Inv-loop μ-loop
-rows-argument-requires-2 c κs = search needs
-
-one-requires : tie.Need-one-requires Inv-loop μ-loop
-one-requires c κs = search needs
+words-requires : tie.Need-words-requires Inv-loop μ-loop
+words-requires c κs = search needs
 
 add-i : tie.Need-add-i Inv-loop μ-loop
 add-i c = search needs
@@ -49,6 +37,9 @@ loop-again c = search needs
 returns : tie.Need-returns Inv-loop μ-loop
 returns c = search needs
 
+returns-2 : tie.Need-returns-2 Inv-loop μ-loop
+returns-2 c = search needs
+
 pub main-spec : {M : Type 1} → statement M
 main-spec =
     tie.close
@@ -57,14 +48,11 @@ main-spec =
     μ-loop
     arg-count-requires
     loop-holds
-    mul-at
-    add-one
-    add-rows-argument
-    rows-argument-requires
-    add-rows-argument-2
-    rows-argument-requires-2
-    one-requires
+    mul-words
+    add-words
+    words-requires
     add-i
     loop-less
     loop-again
-    returns)
+    returns
+    returns-2)

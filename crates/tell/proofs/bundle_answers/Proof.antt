@@ -1,26 +1,14 @@
--- `tell::answers` is safe: what was read lies in the tables.
+-- `tell::bundle_answers` is safe: what was read lies in the tables.
 use mathlib.Core.Path.{sym}
 use native.Mathlib.Omega.{arith}
 use lib.Seq.{length-take-le}
 use Rattle.bundle.specs.Reads.{read-held}
 use borrow.Author.Needs.{needs}
-use Rattle.tell.proofs.answers.Statement.{statement}
-use Rattle.tell.proofs.answers.Tie as tie
-
-slice-aggregate-read-full : tie.Need-slice-aggregate-read-full
-slice-aggregate-read-full c = search needs
-
-read-full-requires : tie.Need-read-full-requires
-read-full-requires c κs = search needs
-
-array-share-prefix-input : tie.Need-array-share-prefix-input
-array-share-prefix-input c = search needs
+use Rattle.tell.proofs.bundle_answers.Statement.{statement}
+use Rattle.tell.proofs.bundle_answers.Tie as tie
 
 slice-aggregate-read : tie.Need-slice-aggregate-read
 slice-aggregate-read c = search needs
-
-slice-aggregate-read-2 : tie.Need-slice-aggregate-read-2
-slice-aggregate-read-2 c = search needs
 
 read-requires : tie.Need-read-requires
 read-requires c κs = search needs
@@ -55,15 +43,11 @@ returns c = search needs
 returns-2 : tie.Need-returns-2
 returns-2 c = search needs
 
-pub answers-spec : {M : Type 1} → statement M
-answers-spec =
+pub bundle-answers-spec : {M : Type 1} → statement M
+bundle-answers-spec =
     tie.close
     (tie.spec
-    slice-aggregate-read-full
-    read-full-requires
-    array-share-prefix-input
     slice-aggregate-read
-    slice-aggregate-read-2
     read-requires
     copied-requires
     read-line-requires

@@ -1,0 +1,26 @@
+-- `listing::run_line` meets its contract: the question's word, then its fields.
+use native.Mathlib.Omega.{arith}
+use Rattle.meaning.specs.Listing.{codes}
+use Rattle.lines.specs.Adds.{adds-then}
+use borrow.Author.Needs.{needs}
+use Rattle.listing.proofs.run_line.Statement.{statement}
+use Rattle.listing.proofs.run_line.Tie as tie
+
+slice-aggregate-word : tie.Need-slice-aggregate-word
+slice-aggregate-word c = search needs
+
+word-requires : tie.Need-word-requires
+word-requires c κs = search needs
+
+fields2-requires : tie.Need-fields2-requires
+fields2-requires c κs = search needs
+
+same-length : tie.Need-same-length
+same-length c = search needs
+
+returns : tie.Need-returns
+unfolding codes
+returns c = adds-then (c .before .before .before .before .before .before .word .ensures) (c .before .before .fields2 .ensures .0)
+
+pub run-line-spec : {M : Type 1} → statement M
+run-line-spec = tie.close (tie.spec slice-aggregate-word word-requires fields2-requires same-length returns)
