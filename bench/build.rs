@@ -1,10 +1,12 @@
-//! Links the archive of the proved calls that `bench/build` made.
+//! Links the archives that `tools/archive` made: of the bench's own calls (`bench/build`), of the calls for C (`bench/mutated`).
 
 fn main() {
-    let folder =
-        std::env::var("BENCH_CALLS").expect("BENCH_CALLS: the folder that bench/build made");
-    println!("cargo:rustc-link-search=native={folder}");
-    println!("cargo:rustc-link-lib=static=bench_calls");
-    println!("cargo:rerun-if-env-changed=BENCH_CALLS");
-    println!("cargo:rerun-if-changed={folder}/libbench_calls.a");
+    for (variable, library) in [("BENCH_CALLS", "bench_calls"), ("CHUKELOWA", "chukelowa")] {
+        println!("cargo:rerun-if-env-changed={variable}");
+        if let Ok(folder) = std::env::var(variable) {
+            println!("cargo:rustc-link-search=native={folder}");
+            println!("cargo:rustc-link-lib=static={library}");
+            println!("cargo:rerun-if-changed={folder}/lib{library}.a");
+        }
+    }
 }

@@ -1,8 +1,9 @@
-/* Loads a bundle from a file, sees that its script takes A into B and that its forest is of A, runs the script, and
- * prints the edited forest in the notation of docs/NOTATION.md (a bundle has no names: label 3 is printed as l3).
+/* Loads a bundle from a file, has its script checked from A to B, its forest fitted to A and the script run (apply), walks
+ * the result's rows and prints the edited description in the notation of docs/NOTATION.md.
  *
- *     edited FILE
+ *     edited FILE [NAME..]
  *
+ * A bundle has no names: the words after the file are those of labels 1, 2, 3 and so on; any other label, 9, is l9.
  * Exits with 0 if it is done, 1 if a call refused, 2 if the file could not be read.
  */
 #include <stdio.h>
@@ -15,9 +16,18 @@ static unsigned char tables[CHUKELOWA_TABLES_BYTES];
 static unsigned char work[CHUKELOWA_WORK_BYTES];
 static unsigned char result[CHUKELOWA_RESULT_BYTES];
 
+static char **label_names;
+static size_t named;
+
 static size_t word(const unsigned char *bytes, size_t place)
 {
     return bytes[2 * place] + 256u * bytes[2 * place + 1];
+}
+
+/* a result row: its words are kind, p, q, next */
+static const unsigned char *row_at(size_t row)
+{
+    return result + CHUKELOWA_ROW_BYTES * (row - 1);
 }
 
 /* where the pool begins in the tables */
@@ -45,12 +55,40 @@ static void print_text(size_t offset, size_t length)
     putchar('"');
 }
 
-/* the trees from a row on: siblings in a loop, children by a call */
-static void print_trees(size_t row)
+static void print_label(size_t label)
+{
+    if (label >= 1 && label <= named)
+        printf("%s", label_names[label - 1]);
+    else
+        printf("l%lu", (unsigned long)label);
+}
+
+/* how many labels stand in each other, from these trees down */
+static size_t height(size_t row)
+{
+    size_t most = 0, one;
+    for (; row != 0; row = word(row_at(row), 3)) {
+        one = word(row_at(row), 0) == CHUKELOWA_LABEL ? 1 + height(word(row_at(row), 2)) : 0;
+        if (one > most)
+            most = one;
+    }
+    return most;
+}
+
+static void new_line(size_t indent)
+{
+    putchar('\n');
+    while (indent-- > 0)
+        printf("  ");
+}
+
+/* the trees from a row on: siblings in a loop, children by a call; a line for each where there is much in them */
+static void print_trees(size_t row, size_t indent, int lines)
 {
     const unsigned char *at;
+    int inner;
     for (; row != 0; row = word(at, 3)) {
-        at = result + CHUKELOWA_ROW_BYTES * (row - 1);
+        at = row_at(row);
         switch (word(at, 0)) {
         case CHUKELOWA_TEXT:
             print_text(word(at, 1), word(at, 2));
@@ -62,13 +100,24 @@ static void print_trees(size_t row)
             printf("true");
             break;
         case CHUKELOWA_LABEL:
-            printf("l%lu[", (unsigned long)word(at, 1));
-            print_trees(word(at, 2));
+            inner = height(word(at, 2)) > 1;
+            print_label(word(at, 1));
+            putchar('[');
+            if (inner)
+                new_line(indent + 1);
+            print_trees(word(at, 2), indent + 1, inner);
+            if (inner)
+                new_line(indent);
             putchar(']');
             break;
         }
-        if (word(at, 3) != 0)
-            printf(", ");
+        if (word(at, 3) != 0) {
+            putchar(',');
+            if (lines)
+                new_line(indent);
+            else
+                putchar(' ');
+        }
     }
 }
 
@@ -76,45 +125,52 @@ static void print_trees(size_t row)
 static int is_done(const char *call, chukelowa_reply reply)
 {
     static const char *const names[] = {
-        "done", "Block", "Shape", "Barren", "Tie", "Fuel", "Depth", "Wide", "Mismatch", "Not included", "Unfit", "Stuck", "Scratch", "Room",
+        "done", "Block", "Shape", "Barren", "Tie", "Fuel", "Depth",
+        "Wide", "Mismatch", "Not included", "Unfit", "Stuck", "Scratch", "Room",
     };
     if (reply.number == CHUKELOWA_DONE)
         return 1;
-    fprintf(stderr, "%s: refused with %lu (%s), %lu %lu\n", call, (unsigned long)reply.number, names[reply.number], (unsigned long)reply.a, (unsigned long)reply.b);
+    fprintf(stderr, "%s: refused with %lu (%s), %lu %lu, after %lu units of the check and %lu of the run\n", call,
+            (unsigned long)reply.number, names[reply.number], (unsigned long)reply.a, (unsigned long)reply.b,
+            (unsigned long)reply.check_units, (unsigned long)reply.run_units);
     return 0;
+}
+
+/* the file's bytes in `bundle`; 0 if they could not be read */
+static int load(const char *name, size_t *bytes)
+{
+    FILE *file = fopen(name, "rb");
+    int loaded = 0;
+    if (file != NULL) {
+        *bytes = fread(bundle, 1, sizeof bundle, file);
+        loaded = !ferror(file);
+    }
+    if (!loaded)
+        perror(name);
+    if (file != NULL)
+        fclose(file);
+    return loaded;
 }
 
 int main(int count, char **words)
 {
-    chukelowa_reply ran;
+    chukelowa_reply edited;
     size_t bytes;
-    FILE *file;
-    if (count != 2) {
-        fprintf(stderr, "usage: edited FILE\n");
+    if (count < 2) {
+        fprintf(stderr, "usage: edited FILE [NAME..]\n");
         return 2;
     }
-    file = fopen(words[1], "rb");
-    if (file == NULL) {
-        perror(words[1]);
+    label_names = words + 2;
+    named = (size_t)count - 2;
+    if (!load(words[1], &bytes))
         return 2;
-    }
-    bytes = fread(bundle, 1, sizeof bundle, file);
-    if (ferror(file)) {
-        perror(words[1]);
-        fclose(file);
-        return 2;
-    }
-    fclose(file);
+    /* the tables are for the texts of the result, which stand in the pool */
     if (!is_done("read", chukelowa_read(bundle, bytes, tables, sizeof tables)))
         return 1;
-    if (!is_done("check", chukelowa_check(bundle, bytes, work, sizeof work)))
+    edited = chukelowa_apply(bundle, bytes, work, sizeof work, result, sizeof result);
+    if (!is_done("apply", edited))
         return 1;
-    if (!is_done("fit", chukelowa_fit(bundle, bytes, word(tables, CHUKELOWA_A))))
-        return 1;
-    ran = chukelowa_run(bundle, bytes, work, sizeof work, result, sizeof result);
-    if (!is_done("run", ran))
-        return 1;
-    print_trees(ran.root);
+    print_trees(edited.root, 0, 1);
     putchar('\n');
     return 0;
 }
