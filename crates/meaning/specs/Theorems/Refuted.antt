@@ -6,4 +6,5 @@ pub mod Calls
 pub mod Run
 pub mod Check
 pub mod Fit
+pub mod Apply
 pub mod Bundle

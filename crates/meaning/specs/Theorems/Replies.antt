@@ -9,12 +9,13 @@ use lib.ListN.{length, take, drop}
 use lib.Seq.{take-append-seam}
 use Rattle.meaning.specs.Limits.{most-depth, most-fuel, row-words}
 use Rattle.meaning.specs.Words.{rowsLent, zeroed}
-use Rattle.meaning.specs.Sheet.{scriptOf, groveOf, sheetOf}
+use Rattle.meaning.specs.Sheet.{Script, scriptOf, groveOf, sheetOf}
 use Rattle.meaning.specs.Forest.{Forest, forestOf, forestSize, resultRows, rowBytes}
-use Rattle.meaning.specs.Types.{Ty}
-use Rattle.meaning.specs.Walk.{Verdict, gives, stops, Settles, Unasked, due}
+use Rattle.meaning.specs.Types.{Ty, of-empty, namesIn}
+use Rattle.meaning.specs.Walk.{Place, Verdict, gives, stops, Settles, Unasked, due}
 use Rattle.meaning.specs.Walk as walk
 use Rattle.meaning.specs.Run.{run-walk}
+use Rattle.meaning.specs.Check.{Judged, check-walk}
 use Rattle.meaning.specs.Figures.{Takes, Accepts}
 use Rattle.meaning.specs.Charges.{takes-charge, takes-levels}
 use Rattle.meaning.specs.Reply.{Refusal, block, shape, barren, tie, fuel, depth, wide, mismatch, outside, unfit, stuck, scratch, room, Answer, done, refused, verdict-answer}
@@ -24,14 +25,18 @@ use Rattle.meaning.specs.Bundle.{framed, sheetIn}
 use Rattle.meaning.specs.Listing.{Told, loaded, check-ended, fit-ended, run-ended, all-done, Tells, not-framed, not-loaded, not-checked, not-fit, not-run, told, lent-work, lent-result}
 use Rattle.meaning.specs.Laws.Bools.{never}
 use Rattle.meaning.specs.Laws.Walk.{Other, fuel-all, settle-settles, settles-settle, due-short, due-paid}
-use Rattle.meaning.specs.Laws.Sure.{Spent, Found}
+use Rattle.meaning.specs.Laws.Sure.{Spent, Found, Ended}
 use Rattle.meaning.specs.Theorems.ExactRun.{run-exactly}
-use Rattle.meaning.specs.Theorems.ExactCheck.{accepts-found-or-spent}
+use Rattle.meaning.specs.Theorems.ExactCheck.{accepts-enough, accepts-found-or-spent}
 use Rattle.meaning.specs.Theorems.ReadBack.{result-length, row-bytes-length}
 use Rattle.meaning.specs.Theorems.Steady.{verdict-more, same-walk, walked-more, alike-script, alike-grove, withCheckFuel, withRunFuel, check-load-stays, run-load-stays}
 use Rattle.meaning.specs.Theorems.Steady.{run-alike, check-alike, run-fuel-is, check-fuel-is}
 use Rattle.meaning.specs.Theorems.Single.{one-load, one-run}
-use Rattle.meaning.specs.Theorems.Sound.{checked-accepts}
+use Rattle.meaning.specs.Theorems.Sound.{checked-accepts, stuck-self-not-passed}
+use Rattle.meaning.specs.Theorems.Worked.Stated.{runs, checks}
+use Rattle.meaning.specs.Theorems.Refuted.Calls.{Check, MeetsCheck, work-rows}
+use Rattle.meaning.specs.Theorems.Refuted.Check.{PassesAll}
+use Rattle.meaning.specs.Theorems.Refuted.Run.{twice-stuck, ok-twice-stuck, stuck-twice}
 
 -- ---- run
 
@@ -179,6 +184,45 @@ check-exactly {s} {work} {units = units} c = ((λ e. checked-accepts (rw e at c)
     spares (Checked.unsound k) l a = never (cc (one-load s k l))
     spares (Checked.no-scratch k n) l a = tt
     spares (walked {v = v} k n t e d) l a = rw (← e) (found-spares (a .main .output) v (accepts-found-or-spent (scriptOf s) a _ _ v t))
+
+-- a check that passes all passes a script that is Stuck on a forest of A, and demand 3 alone stops it (by "exactly" and a sheet: Refuted/Check)
+pub not-passes-stuck : (f : Check) → MeetsCheck f → PassesAll f → ⊥
+unfolding twice-stuck runs checks
+not-passes-stuck f meets w = stuck-self-not-passed {s = twice-stuck} (meets twice-stuck lent-work) of-empty (stuck-twice lent-work lent-result (work-rows 4096 refl))
+    (w twice-stuck lent-work ok-twice-stuck (work-rows 4096 refl))
+
+-- how a check of an accepted script ends, of which `price` units fall due: done for just these, if the purse holds them; else Fuel, with all of it spent. Or Depth or Wide ends it
+pub data Costing (price purse : ℕ) : Answer → ℕ → Type 0 where
+  in-full : {units : ℕ} → price ≤ purse → units ≡ price → Costing price purse done units
+  too-dear : {units : ℕ} → purse < price → units ≡ purse → Costing price purse (refused fuel) units
+  too-deep : {units : ℕ} → Costing price purse (refused depth) units
+  too-wide : {units : ℕ} {at : Place} → Costing price purse (refused (wide at)) units
+
+-- so on every sheet with the script's tables that passes 2 to 4, with every check fuel, whatever the forest, if the working rows suffice
+pub record CheckCosts (S : Script) (price : ℕ) : Type 0 where
+  pub ends : {s work : List ℕ} {a : Answer} {units : ℕ} → scriptOf s ≡ S → Loads s done → sheetOf s .checkFuel ≤ rowsLent work → Checked s work a units → Costing price (sheetOf s .checkFuel) a units
+
+-- a script that the rules accept has one such number
+pub check-fuel : (S : Script) → Accepts S → (price : ℕ) × CheckCosts S price
+check-fuel S accepts = let c = accepts-enough S accepts in (c .0, record { ends = costing (c .0) (c .1) })
+  where
+    verdict : (purse price units left : ℕ) (τ : Ty) (v : Verdict Ty) → Ended (Spent (Unit {0}) (Unit {0})) τ price purse v left → (v ≡ walk.Verdict.fuel → left ≡ 0) → units + left ≡ purse
+        → Costing price purse (verdict-answer v) units
+    verdict purse price units left τ (gives σ) h z d = in-full {units = units} (omega (arith, h .1)) (omega (arith, h .1))
+    verdict purse price units left τ walk.Verdict.fuel h z d = too-dear {units = units} h (omega (arith, z refl))
+    verdict purse price units left τ (stops walk.Stop.depth) h z d = too-deep
+    verdict purse price units left τ (stops (walk.Stop.wide at)) h z d = too-wide
+    verdict purse price units left τ (stops (walk.Stop.mismatch at)) h z d = absurd h
+    verdict purse price units left τ (stops (walk.Stop.outside at)) h z d = absurd h
+    verdict purse price units left τ (stops (walk.Stop.stuck at)) h z d = absurd h
+
+    costing : (price : ℕ) → ((n m : ℕ) (v : Verdict Ty) → Settles (Judged (namesIn S)) (check-walk S) n v m → Ended (Spent (Unit {0}) (Unit {0})) (accepts .main .output) price n v m)
+        → {s work : List ℕ} {a : Answer} {units : ℕ} → scriptOf s ≡ S → Loads s done → sheetOf s .checkFuel ≤ rowsLent work → Checked s work a units → Costing price (sheetOf s .checkFuel) a units
+    costing price h {s} e l n (Checked.unsound k) = never (cc (one-load s k l))
+    costing price h e l n (Checked.no-scratch k m) = absurd (omega arith)
+    costing price h {s} {units = u} e l n (walked {left = left} {v = v} k m t q d) =
+        let w : Settles (Judged (namesIn S)) (check-walk S) (sheetOf s .checkFuel) v left = rw e at t in
+        rw (← q) (verdict (sheetOf s .checkFuel) price u left (accepts .main .output) v (h _ _ v w) (λ f. fuel-all (Judged (namesIn S)) (rw f at w)) d)
 
 -- ---- more fuel, same answer
 

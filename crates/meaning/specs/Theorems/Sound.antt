@@ -15,7 +15,7 @@ use Rattle.meaning.specs.Walk.{Place, Verdict, gives, fuel, stops, Settl
 use Rattle.meaning.specs.Run.{run-walk}
 use Rattle.meaning.specs.Check.{Judged, check-walk}
 use Rattle.meaning.specs.Figures.{Accepts}
-use Rattle.meaning.specs.Reply.{Refusal, scratch, room, Answer, done, refused, verdict-answer, Loads, Checked, walked, Fitted, fits, Ran, ended, no-room, gave, run-settled, Applied, unchecked, unfitted, applied}
+use Rattle.meaning.specs.Reply.{Refusal, scratch, room, Answer, done, refused, verdict-answer, Loads, Checked, walked, Fitted, fits, Ran, ended, no-room, gave, run-settled, Applied, unchecked, unfitted, applied, Reply, CheckReply}
 use Rattle.meaning.specs.Theorems.ReadBack.{lentRow, given-back}
 use Rattle.meaning.specs.Theorems.ExactCheck.{accepted}
 use Rattle.meaning.specs.Theorems.Single.{one-load, done-loads}
@@ -24,7 +24,7 @@ use Rattle.meaning.specs.Laws.Agree.{SameTables, same-script}
 use Rattle.meaning.specs.Theorems.Steady.{withRunFuel, alike-script, alike-grove, run-alike, run-fuel-loads}
 use Rattle.meaning.specs.Theorems.Sound.Judgments.{Ends, with-forest, short-of-fuel, short-of-depth, fit-none, typed-sound}
 use Rattle.meaning.specs.Theorems.Sound.Written.{loads-shapely, calls-named, given-writable}
-use Rattle.meaning.specs.Theorems.Sound.Unstuck.{check-unstuck, fit-unstuck}
+use Rattle.meaning.specs.Theorems.Sound.Unstuck.{load-unstuck, check-unstuck, fit-unstuck}
 
 -- ---- the theorem, on replies
 
@@ -76,7 +76,7 @@ module _ {s s′ work : List ℕ} {u : ℕ} (checked : Checked s work done u) (s
       let S = scriptOf s′ in let a : Accepts S = rw script (checked-accepts checked) in let m = a .main in
       ends-within (m .lies) (typed-sound S (groveOf s′ .byte) (calls-named s′ (loads-shapely loads)) (a .procedures) most-depth (sheetOf s′ .runFuel) [] [] (S .main) (declared S (S .a)) (m .output) (forestOf (groveOf s′)) (m .typed) fit-none member)
 
-  -- M-12, M-13: for every run fuel and every lent length, on any sheet with the script that check passed, whose forest is of A
+  -- for every run fuel and every lent length, on any sheet with the script that check passed, whose forest is of A
   pub sound-run : {work′ result after : List ℕ} {a : Answer} {units root : ℕ} → Ran s′ work′ result a units root after → Safely s′ a root after
   sound-run (Ran.unsound l) = never (cc (one-load s′ l loads))
   sound-run (Ran.no-scratch l n) = by-scratch
@@ -123,3 +123,25 @@ apply-unstuck (applied c f r) at h = never-stuck (sound-self c (fitted-of-A f) r
 
 pub apply-sound : {s work result after : List ℕ} {u v root : ℕ} → Applied s work result done u v root after → OfB s after root
 apply-sound (applied c f r) = safely-B (sound-self c (fitted-of-A f) r)
+
+-- ---- so demand 3 alone stops a check that passes all
+
+-- a run that is Stuck has loaded
+stuck-loads : {s work result after : List ℕ} {a : Answer} {units root : ℕ} → Ran s work result a units root after → (at : Place) → a ≡ refused (Refusal.stuck at) → Loads s done
+stuck-loads (Ran.unsound l) at h = absurd (load-unstuck l at h)
+stuck-loads (Ran.no-scratch l n) at h = l
+stuck-loads (ended l n e d) at h = l
+stuck-loads (no-room l n g d x) at h = l
+stuck-loads (gave l n g d x y z) at h = l
+
+-- no reply done meets check's promise of a sheet whose script is Stuck on some forest of A, be it this sheet's or another's behind its tables
+pub stuck-not-passed : {s s′ work work′ result after : List ℕ} {units root : ℕ} {at : Place} {R : Reply} → CheckReply s work R → SameTables s s′ → OfA s′
+    → Ran s′ work′ result (refused (Refusal.stuck at)) units root after → R .answer ≡ done → ⊥
+stuck-not-passed {s} {work = work} {at = at} {R = R} k same o r e =
+    let c : Checked s work done (R .checkUnits) = rw e at (k .said) in never-stuck (sound-any-forest c same (stuck-loads r at refl) o r) at refl
+
+-- its own
+pub stuck-self-not-passed : {s work work′ result after : List ℕ} {units root : ℕ} {at : Place} {R : Reply} → CheckReply s work R → OfA s
+    → Ran s work′ result (refused (Refusal.stuck at)) units root after → R .answer ≡ done → ⊥
+stuck-self-not-passed {s} {work = work} {at = at} {R = R} k o r e =
+    let c : Checked s work done (R .checkUnits) = rw e at (k .said) in never-stuck (sound-self c o r) at refl

@@ -73,7 +73,7 @@ module _ (s s′ : List ℕ) (script : scriptOf s′ ≡ scriptOf s) where
     unfolding run-walk sheetOf
     same-walk = rw (script, grove)
 
-    -- M-15, M-16: the same rows, root and units, if the working rows suffice
+    -- the same rows, root and units, if the working rows suffice
     pub steady-run : {work work′ result after : List ℕ} {u root : ℕ} → Ran s work result done u root after → sheetOf s .runFuel ≤ sheetOf s′ .runFuel → Loads s′ done → groveOf s′ .rows + sheetOf s′ .runFuel ≤ rowsLent work′
         → Ran s′ work′ result done u root after
     steady-run (gave {f = f} {units = u} l n g d x y z) more loads lent =
@@ -99,7 +99,7 @@ module _ (s s′ : List ℕ) (script : scriptOf s′ ≡ scriptOf s) where
       → sheetOf s .checkFuel ≤ sheetOf s′ .checkFuel → Loads s′ done → sheetOf s′ .checkFuel ≤ rowsLent work′ → Checked s′ work′ a units
   walked-more {units = u} t e d o more loads lent = walked {units = u} loads lent (settles-more t o more) e (omega (arith, within-purse (Judged (namesIn (scriptOf s))) t))
 
-  -- M-17: with its values and units, on the same terms
+  -- a check's answer, with its values and units, on the same terms
   pub steady-check : {work work′ : List ℕ} {a : Answer} {u : ℕ} → Checked s work a u → Says a → sheetOf s .checkFuel ≤ sheetOf s′ .checkFuel → Loads s′ done → sheetOf s′ .checkFuel ≤ rowsLent work′
       → Checked s′ work′ a u
   steady-check (Checked.unsound l) o more loads lent = absurd (no-load l o)

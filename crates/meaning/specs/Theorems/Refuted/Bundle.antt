@@ -15,15 +15,14 @@ use Rattle.meaning.specs.Sheet.{need}
 use Rattle.meaning.specs.Shape.{shapely}
 use Rattle.meaning.specs.Bundle.{filled, payload, all-zero, block, blockFront, checkWord, blocks, sheetBytes, blocksFor, bundleOf, block-bytes, blockCount, sheetIn}
 use Rattle.meaning.specs.Bundle.{length-ok, numbers-ok, checks-ok, count-ok, padding-ok, framed}
-use Rattle.meaning.specs.Reply.{Refusal, shape, room, done, refused, Reply, RunReply, OfBundle, unframed, Copied, copied-in, read, write}
-use Rattle.meaning.specs.Laws.Bools.{no-left, no-right, either}
+use Rattle.meaning.specs.Reply.{Refusal, shape, room, done, refused, Reply, CheckReply, RunReply, ApplyReply, OfBundle, unframed, opened, Copied, copied-in, read, write}
+use Rattle.meaning.specs.Laws.Bools.{no-left, no-right, either, not-both}
 use Rattle.meaning.specs.Laws.Tests.{every-at, every-all}
 use Rattle.meaning.specs.Laws.Words.{word-of-bytes, word-past}
-use Rattle.meaning.specs.Theorems.Single.{one-bundle-run}
 use Rattle.meaning.specs.Theorems.Trip.{length-front, length-block, length-blocks, check-same, block-check, nth-block, sheet-of-bundle, framed-bundle, write-if, written-reads}
 use Rattle.meaning.specs.Theorems.Worked.Stated.{tables}
 use Rattle.meaning.specs.Theorems.Worked.Stated.{shape as shape-computes}
-use Rattle.meaning.specs.Theorems.Refuted.Calls.{Run, Copier, MeetsRead, MeetsWrite, codes, two-answers, differ, two-bytes, idle}
+use Rattle.meaning.specs.Theorems.Refuted.Calls.{Run, Check, Copier, MeetsRead, MeetsWrite, codes, two-answers, differ, two-bytes, idle}
 
 -- ---- the wrong programs
 
@@ -70,6 +69,16 @@ MeetsBundleRun f = (b work result : List ℕ) → OfBundle b work result (λ s. 
 
 abbrev pub UnzeroedAtBlock : Run → Type 0
 UnzeroedAtBlock f = (b work result : List ℕ) → f b work result .answer ≡ refused Refusal.block → f b work result .work ≡ work
+
+-- the same of apply and of check
+abbrev pub MeetsBundleApply : Run → Type 0
+MeetsBundleApply f = (b work result : List ℕ) → OfBundle b work result (λ s. ApplyReply s work result) (f b work result)
+
+abbrev pub MeetsBundleCheck : Check → Type 0
+MeetsBundleCheck f = (b work : List ℕ) → OfBundle b work [] (λ s. CheckReply s work) (f b work)
+
+abbrev pub CheckUnzeroedAtBlock : Check → Type 0
+CheckUnzeroedAtBlock f = (b work : List ℕ) → f b work .answer ≡ refused Refusal.block → f b work .work ≡ work
 
 -- ---- the blocks
 
@@ -240,10 +249,17 @@ module _ (f : Copier) (meets : MeetsWrite f) where
   pub not-reads-back-other : ReadsBackOther f → ⊥
   not-reads-back-other (s, lent, lent′, e, l, w) = w (rw (meets s lent) (written-reads s lent lent′ (rw (meets s lent) at e) l))
 
-module _ (f : Run) (meets : MeetsBundleRun f) where
-  -- no bytes are no bundle; one working byte, 9: it is 0 after Block
-  pub not-unzeroed-at-block : UnzeroedAtBlock f → ⊥
-  unfolding differ
-  not-unzeroed-at-block w =
-      let e = one-bundle-run [] (9 ∷ []) [] _ _ (meets [] (9 ∷ []) []) (unframed refl) in
-      two-bytes (0 ∷ []) (9 ∷ []) [] [] (ap (λ (R : Reply). R .work) e) (w [] (9 ∷ []) [] (ap (λ (R : Reply). R .answer) e)) refl
+-- no bytes are no bundle; one working byte, 9: it is 0 after Block, whatever was asked
+nine-at-block : {Asked : List ℕ → Reply → Type 0} {R : Reply} → OfBundle [] (9 ∷ []) [] Asked R → (R .answer ≡ refused Refusal.block → R .work ≡ 9 ∷ []) → ⊥
+unfolding differ
+nine-at-block (unframed e) w = two-bytes (0 ∷ []) (9 ∷ []) [] [] refl (w refl) refl
+nine-at-block (opened e k) w = not-both e refl
+
+pub not-unzeroed-at-block : (f : Run) → MeetsBundleRun f → UnzeroedAtBlock f → ⊥
+not-unzeroed-at-block f meets w = nine-at-block (meets [] (9 ∷ []) []) (w [] (9 ∷ []) [])
+
+pub not-apply-unzeroed-at-block : (f : Run) → MeetsBundleApply f → UnzeroedAtBlock f → ⊥
+not-apply-unzeroed-at-block f meets w = nine-at-block (meets [] (9 ∷ []) []) (w [] (9 ∷ []) [])
+
+pub not-check-unzeroed-at-block : (f : Check) → MeetsBundleCheck f → CheckUnzeroedAtBlock f → ⊥
+not-check-unzeroed-at-block f meets w = nine-at-block (meets [] (9 ∷ [])) (w [] (9 ∷ []))

@@ -13,7 +13,7 @@ use Rattle.meaning.specs.Types.{Ty, Named, Of, of-empty, of-label, Withi
 use Rattle.meaning.specs.Walk.{Place, gives, paid, passed, of-query, of-statement, of-output}
 use Rattle.meaning.specs.Walk as walk
 use Rattle.meaning.specs.Check.{fails}
-use Rattle.meaning.specs.Reply.{fuel, wide, mismatch, outside, scratch, Refusal, Answer, done, refused, Loads, Checked}
+use Rattle.meaning.specs.Reply.{fuel, wide, mismatch, outside, scratch, Refusal, Answer, done, refused, Loads, misshapen, Checked}
 use Rattle.meaning.specs.Listing.{lent-work}
 use Rattle.meaning.specs.Theorems.Single.{one-check}
 use Rattle.meaning.specs.Theorems.Worked.{worked, ok7-back}
@@ -186,6 +186,11 @@ fuel-idle : Checks (idle 0 4096) (refused fuel) 0
 unfolding idle checks
 fuel-idle = answers-by ok-idle 0 walk.short refl refl
 
+-- and with fuel past the limit
+ok-over : Loads (idle 4097 0) (refused Refusal.shape)
+unfolding idle shape
+ok-over = misshapen refl
+
 -- ---- none of them meets the promise
 
 module _ (f : Check) (meets : MeetsCheck f) where
@@ -264,7 +269,21 @@ module _ (f : Check) (meets : MeetsCheck f) where
   unfolding idle tables codes
   not-checks-on-run-fuel w = two-answers (said (fuel-idle [] (leb-true 0 0 refl)) .0) (w (idle 0 4096) [] Ty.empty 4095 ok-idle (leb-true 0 0 refl) (walk-idle 4095)) refl
 
-  -- one working byte, 9: it is 0 after Fuel
+  -- one working byte, 9: it is 0 after each refusal
+  zero-nine : {s : List ℕ} {r : Refusal} → f s (9 ∷ []) .answer ≡ refused r → CheckUnzeroed r f → ⊥
+  unfolding differ
+  zero-nine {s} e w = two-bytes (0 ∷ []) (9 ∷ []) [] [] (meets s (9 ∷ []) .clear) (w s (9 ∷ []) e) refl
+
+  -- after Fuel
   pub not-check-unzeroed : CheckUnzeroed fuel f → ⊥
-  unfolding idle tables differ
-  not-check-unzeroed w = two-bytes (0 ∷ []) (9 ∷ []) [] [] (meets (idle 0 4096) (9 ∷ []) .clear) (w (idle 0 4096) (9 ∷ []) (said (fuel-idle (9 ∷ []) (leb-true 0 0 refl)) .0)) refl
+  unfolding idle tables
+  not-check-unzeroed = zero-nine (said (fuel-idle (9 ∷ []) (leb-true 0 0 refl)) .0)
+
+  -- after Shape
+  pub not-check-unzeroed-at-shape : CheckUnzeroed Refusal.shape f → ⊥
+  not-check-unzeroed-at-shape = zero-nine (said {work = 9 ∷ []} (Checked.unsound ok-over) .0)
+
+  -- after Scratch
+  pub not-check-unzeroed-at-scratch : CheckUnzeroed scratch f → ⊥
+  unfolding contents tables
+  not-check-unzeroed-at-scratch = zero-nine (said {s = contents} {work = 9 ∷ []} (Checked.no-scratch ok-contents (leb-true 1 4096 refl)) .0)

@@ -17,7 +17,7 @@ use Rattle.meaning.specs.Walk.{gives, settle, of-query, of-statement}
 use Rattle.meaning.specs.Run.{run-walk}
 use Rattle.meaning.specs.Shape.{shapely}
 use Rattle.meaning.specs.Places.{Tie}
-use Rattle.meaning.specs.Reply.{shape, barren, tie, fuel, depth, stuck, scratch, room, Refusal, Answer, done, refused, Loads, misshapen, is-barren, Ran, unsound, no-scratch}
+use Rattle.meaning.specs.Reply.{shape, barren, tie, fuel, depth, stuck, scratch, room, Refusal, Answer, done, refused, Loads, misshapen, is-barren, is-tied, Ran, unsound, no-scratch}
 use Rattle.meaning.specs.Reply.{no-room, given, run-settled}
 use Rattle.meaning.specs.Listing.{lent-work, lent-result}
 use Rattle.meaning.specs.Laws.Tests.{table-low, table-high}
@@ -25,9 +25,9 @@ use Rattle.meaning.specs.Theorems.Single.{one-run}
 use Rattle.meaning.specs.Theorems.Worked.{worked, seven, whole, run-whole, ok12}
 use Rattle.meaning.specs.Theorems.Worked.Sheets.{Row, tr, row, joined, sheet, small, s1, s5, s6, s8, s9, s11, s12, loop}
 use Rattle.meaning.specs.Theorems.Worked.Ties.{tie as tie-of}
-use Rattle.meaning.specs.Theorems.Worked.Stated.{tables, shape as shape-computes, ties, runs, checks, a, b, leaf, trees, Does, Refuses, loads, does, refuses}
+use Rattle.meaning.specs.Theorems.Worked.Stated.{tables, shape as shape-computes, ties, runs, checks, a, b, leaf, trees, Does, Refuses, no-names, loads, does, refuses}
 use Rattle.meaning.specs.Theorems.Refuted.Calls.{Run, MeetsRun, statementIn, queryIn, mainOf, forestIn, Enough, codes, two-answers, two-numbers, differ, two-bytes, work-rows, result-rows}
-use Rattle.meaning.specs.Theorems.Refuted.Calls.{idle, barren-tied}
+use Rattle.meaning.specs.Theorems.Refuted.Calls.{skipping, idle, barren-tied}
 
 -- ---- what is given
 
@@ -114,6 +114,10 @@ StuckAsStatement f = (s work result : List ℕ) (i u : ℕ) → Ran s work resul
 -- Tie's two rows exchanged
 abbrev pub TieTurned : Run → Type 0
 TieTurned f = (s work result : List ℕ) (x y : ℕ) → Loads s (refused (tie x y)) → f s work result .answer ≡ refused (tie y x)
+
+-- Tie with whatever rival a rule picks: the highest, the first found
+abbrev pub RivalBy : (List ℕ → ℕ) → Run → Type 0
+RivalBy pick f = (s work result : List ℕ) (x y : ℕ) → Loads s (refused (tie x y)) → f s work result .answer ≡ refused (tie x (pick s))
 
 -- Barren with the highest name
 abbrev pub HighestBarren : Run → Type 0
@@ -208,11 +212,11 @@ unfoldable pub twice-stuck : List ℕ
 unfolding small
 twice-stuck = small (row 1 0 0 0 ∷ row 1 0 0 0 ∷ row 1 0 0 0 ∷ row 9 1 2 3 ∷ row 1 0 0 0 ∷ row 1 0 0 0 ∷ row 1 0 0 0 ∷ row 9 5 6 7 ∷ row 2 4 8 0 ∷ []) (row 4 9 0 0 ∷ []) 1 []
 
-ok-twice-stuck : Loads twice-stuck done
+pub ok-twice-stuck : Loads twice-stuck done
 unfolding twice-stuck shape-computes ties
 ok-twice-stuck = loads twice-stuck refl refl refl
 
-stuck-twice : Refuses twice-stuck (stuck (of-query 4)) 4
+pub stuck-twice : Refuses twice-stuck (stuck (of-query 4)) 4
 unfolding twice-stuck runs
 stuck-twice = refuses ok-twice-stuck 4092 refl refl refl
 
@@ -290,6 +294,15 @@ ok-two-barren = is-barren refl (record { is-name = refl; barren = none-of-1; low
 ok-over : Loads (idle 0 4097) (refused shape)
 unfolding idle shape-computes
 ok-over = misshapen refl
+
+-- from a | (a | a): rows 2, 4 and 6 are rivals
+unfoldable pub three-rivals : List ℕ
+unfolding skipping
+three-rivals = skipping (tr 1 0 0 ∷ tr 4 1 1 ∷ tr 1 0 0 ∷ tr 4 1 3 ∷ tr 1 0 0 ∷ tr 4 1 5 ∷ tr 6 4 6 ∷ tr 6 2 7 ∷ tr 1 0 0 ∷ []) 8 9 [] 4096 4096
+
+tied-three : Loads three-rivals (refused (tie 2 4))
+unfolding three-rivals shape-computes ties
+tied-three = is-tied refl (no-names three-rivals refl) (tie-of (scriptOf three-rivals) 2 4 refl refl refl)
 
 -- a[b,c,b],d, as rows
 abbrev five : List Row
@@ -445,6 +458,11 @@ module _ (f : Run) (meets : MeetsRun f) where
   pub not-tie-turned : TieTurned f → ⊥
   unfolding codes
   not-tie-turned w = two-answers (said {work = []} {result = []} (unsound (worked .p6 .1)) .0) (w s6 [] [] 2 5 (worked .p6 .1)) refl
+
+  -- of three rivals the lowest two are given, and none that another rule picks beside row 2
+  pub not-any-rival : (pick : List ℕ → ℕ) → eqb 4 (pick three-rivals) ≡ false → RivalBy pick f → ⊥
+  unfolding codes
+  not-any-rival pick u w = two-answers (said {work = []} {result = []} (unsound tied-three) .0) (w three-rivals [] [] 2 4 tied-three) u
 
   -- of two barren names the lowest is given
   pub not-highest-barren : HighestBarren f → ⊥

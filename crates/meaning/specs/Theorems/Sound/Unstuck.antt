@@ -154,7 +154,7 @@ module _ (S : Script) where
   calm-check = calm-bodies (S .procedures) _ (calm-body [] (S .main) (declared S (S .a)) (declared S (S .b)))
 
 -- refusal 11 is not a load's, a check's or a fit's
-load-unstuck : {s : List ℕ} {a : Answer} → Loads s a → (at : Place) → a ≡ refused (Refusal.stuck at) → ⊥
+pub load-unstuck : {s : List ℕ} {a : Answer} → Loads s a → (at : Place) → a ≡ refused (Refusal.stuck at) → ⊥
 load-unstuck (misshapen e) at h = never (cc)
 load-unstuck (is-barren e b) at h = never (cc)
 load-unstuck (is-tied e n t) at h = never (cc)
