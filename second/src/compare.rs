@@ -1,4 +1,4 @@
-//! `second compare`: another program's answers against this one's, case by case (issue 3, item 5).
+//! `second compare`: another program's answers against this one's, case by case.
 
 mod shrink;
 

@@ -1,4 +1,4 @@
-//! The notation: sheets as plain text (issue 3, item 3; taught in docs/NOTATION.md).
+//! The notation: sheets as plain text (taught in docs/NOTATION.md).
 //!
 //! `assemble` reads a text into a sheet, `list` writes any sheet that the reader of bundles accepts as a
 //! text, and `assemble(list(sheet)) == sheet`, row numbers and pool places included.
