@@ -114,7 +114,7 @@ chukelowa_reply chukelowa_run(const unsigned char *bundle, size_t bundle_bytes,
                               unsigned char *work, size_t work_bytes,
                               unsigned char *result, size_t result_bytes);
 
-/* Check, fit against A, run; the first refusal ends it: any number, with both units, and of a run that is done the rows
+/* Check, fit against A, run; the first refusal ends it: 0 to 10, 12 or 13, with both units, and of a run that is done the rows
  * and the root as chukelowa_run gives them. */
 chukelowa_reply chukelowa_apply(const unsigned char *bundle, size_t bundle_bytes,
                                 unsigned char *work, size_t work_bytes,

@@ -199,6 +199,23 @@ pub fn write_cases(seed: u64, count: usize, directory: &Path) -> Result<Histogra
     })
 }
 
+/// Writes a bundle for each rule of Shape broken alone, each sheet at the edge of a rule, and each fault of blocks: `RULE-NN.bundle`, `edge-NN.bundle`, `block-NN.bundle`.
+pub fn write_faults(directory: &Path) -> Result<(), String> {
+    let told = |error: std::io::Error| format!("{}: {error}", directory.display());
+    std::fs::create_dir_all(directory).map_err(told)?;
+    let rules = faults().into_iter();
+    let rules = rules.map(|it| (it.rule.replace(' ', "-"), bundles::to_bundle(&it.sheet)));
+    let edges = edges().into_iter();
+    let edges = edges.map(|it| ("edge".into(), bundles::to_bundle(&it)));
+    let blocks = block_faults().into_iter();
+    let blocks = blocks.map(|it| ("block".to_string(), it));
+    for (number, (name, bundle)) in rules.chain(edges).chain(blocks).enumerate() {
+        let file = directory.join(format!("{name}-{number:03}.bundle"));
+        std::fs::write(file, bundle).map_err(told)?;
+    }
+    Ok(())
+}
+
 /// Answers so many cases and holds them against demand 3; what was seen, or the first failure.
 pub fn self_check(seed: u64, count: usize) -> Result<String, String> {
     deep(move || {

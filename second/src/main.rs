@@ -13,6 +13,7 @@ usage:
   second assemble                 the bundle of a text in the notation
   second list                     the text of a bundle, in the notation
   second cases SEED COUNT DIR     random and damaged bundles, the same for a seed
+  second faults DIR               bundles with one fault each, and at the edge of each rule
   second selfcheck SEED COUNT     the same cases against demand 3 and against more fuel
   second compare PROGRAM DIR      the answers of another program to the cases of a directory
 ";
@@ -48,6 +49,7 @@ fn go(words: &[&str]) -> Result<(), String> {
                 cases::write_cases(number(seed)?, number(count)?, Path::new(directory))?;
             print(histogram.to_string().as_bytes())
         }
+        ["faults", directory] => cases::write_faults(Path::new(directory)),
         ["selfcheck", seed, count] => {
             let report = cases::self_check(number(seed)?, number(count)?)?;
             print(report.as_bytes())

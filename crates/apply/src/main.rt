@@ -1,4 +1,4 @@
 // The program `apply`: the listing of the bundle on standard input.
 fn main() {
-    program::chukelowa_program();
+    program::chukelowa_program_apply();
 }

@@ -148,7 +148,7 @@ pub extern "C" fn chukelowa_run(bundle: &[u8], work: &mut [u8], result: &mut [u8
     ran(desk::run(&tables[..need], work, result))
 }
 
-// The same of a script that the check passes, on a forest of A: any number, with the units of both walks.
+// The same of a script that the check passes, on a forest of A: 0 to 10, 12 or 13, with the units of both walks.
 #[no_mangle]
 pub extern "C" fn chukelowa_apply(bundle: &[u8], work: &mut [u8], result: &mut [u8]) -> Reply
     ensures { λ r. ⌜ Gives (Apply (now (bundle .entry)) (now (work .entry)) (now (result .entry))) r (now (result .exit)) (now (work .exit)) ⌝ }

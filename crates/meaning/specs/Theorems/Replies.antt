@@ -224,6 +224,13 @@ check-fuel S accepts = let c = accepts-enough S accepts in (c .0, record { ends 
         let w : Settles (Judged (namesIn S)) (check-walk S) (sheetOf s .checkFuel) v left = rw e at t in
         rw (← q) (verdict (sheetOf s .checkFuel) price u left (accepts .main .output) v (h _ _ v w) (λ f. fuel-all (Judged (namesIn S)) (rw f at w)) d)
 
+-- so Fuel exactly if what falls due exceeds the purse, where neither Depth nor Wide ends it
+pub fuel-exactly : {price purse units : ℕ} {a : Answer} → Costing price purse a units → ¬ (a ≡ refused depth) → ((at : Place) → ¬ (a ≡ refused (wide at))) → (a ≡ refused fuel) ↔ (purse < price)
+fuel-exactly (in-full l e) d w = ((λ h. never (cc)), λ k. absurd (omega arith))
+fuel-exactly (too-dear l e) d w = ((λ h. l), λ k. refl)
+fuel-exactly too-deep d w = absurd (d refl)
+fuel-exactly (too-wide {at = at}) d w = absurd (w at refl)
+
 -- ---- more fuel, same answer
 
 -- every answer but 5, 12 and 13: what hangs neither on the fuel nor on the rows lent

@@ -1,8 +1,8 @@
--- `cases::main` is safe and ends: the arguments left fall.
+-- `program::chukelowa_program_cases` is safe and ends: the arguments left fall.
 use Prim.Native.Nat.{_-_}
 use borrow.Author.Needs.{needs}
-use Rattle.cases.proofs.main.Statement.{statement}
-use Rattle.cases.proofs.main.Tie as tie
+use Rattle.program.proofs.chukelowa_program_cases.Statement.{statement}
+use Rattle.program.proofs.chukelowa_program_cases.Tie as tie
 
 abbrev Inv-loop : tie.InvT-loop
 Inv-loop i₀ i-end i = Unit {0}
@@ -25,6 +25,9 @@ add-words c = search needs
 words-requires : tie.Need-words-requires Inv-loop μ-loop
 words-requires c κs = search needs
 
+returns : tie.Need-returns Inv-loop μ-loop
+returns c = search needs
+
 add-i : tie.Need-add-i Inv-loop μ-loop
 add-i c = search needs
 
@@ -34,14 +37,11 @@ loop-less c = search needs
 loop-again : tie.Need-loop-again Inv-loop μ-loop
 loop-again c = search needs
 
-returns : tie.Need-returns Inv-loop μ-loop
-returns c = search needs
-
 returns-2 : tie.Need-returns-2 Inv-loop μ-loop
 returns-2 c = search needs
 
-pub main-spec : {M : Type 1} → statement M
-main-spec =
+pub chukelowa-program-cases-spec : {M : Type 1} → statement M
+chukelowa-program-cases-spec =
     tie.close
     (tie.spec
     Inv-loop
@@ -51,8 +51,8 @@ main-spec =
     mul-words
     add-words
     words-requires
+    returns
     add-i
     loop-less
     loop-again
-    returns
     returns-2)
