@@ -101,3 +101,21 @@ fn spread(mut values: Vec<f64>) -> [f64; 3] {
         values[values.len() - 1],
     ]
 }
+
+/// The head of a table of times.
+pub fn head(title: &str) {
+    println!("\n{title}");
+    println!(
+        "{:<40} {:>12} {:>12} {:>7}  least to greatest",
+        "", "proved", "second", "times"
+    );
+}
+
+/// A row of it.
+pub fn row(name: &str, it: &Compared) {
+    let [least, median, greatest] = it.times;
+    let (first, other) = (it.first * 1e6, it.other * 1e6);
+    println!(
+        "{name:<40} {first:>9.2} us {other:>9.2} us {median:>7.2}  {least:.2} to {greatest:.2}"
+    );
+}

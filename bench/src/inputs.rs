@@ -352,6 +352,40 @@ pub fn groups(count: usize) -> Input {
     Input::of(format!("S on {count} groups of 8 trees"), &script)
 }
 
+/// The same with P3's types, each any number of times: the check passes, and the forest is of A.
+#[cfg(feature = "archive")]
+pub fn groups_of_a(count: usize) -> Input {
+    let with = |part: fn() -> Ty| {
+        let inside = part().star().then(empty(C)).then(part().star());
+        Ty::label(A, inside).then(empty(D)).star()
+    };
+    let script = Script {
+        forest: (0..count)
+            .flat_map(|_| group(&[B, B, B, C, B, B]))
+            .collect(),
+        ..Script::new(
+            with(|| empty(B)),
+            script_s(),
+            with(|| empty(B).then(empty(C))),
+        )
+    };
+    Input::of(format!("S on {count} groups of 8 trees, of A"), &script)
+}
+
+/// The largest machine description, 2,048 rows, with one pattern's emit edited.
+#[cfg(feature = "archive")]
+pub fn machine_edited() -> Input {
+    let names = (0..NAMES as u16)
+        .map(|name| Ty::label(PATTERNS + name, field(OP).then(field(EMIT).star())));
+    let script = Script {
+        names: names.collect(),
+        forest: machine_of(409),
+        pool: vec![b'x'; POOL_BYTES],
+        ..Script::new(machine(), St::children(emit_edit(1)), machine())
+    };
+    Input::of("a machine of 2,048 rows, edited", &script)
+}
+
 /// 2,048 rows of which S touches the first group and sees three trees more.
 pub fn few_touched() -> Input {
     let deep = |rows: usize| nested(leaf(D), rows - 1, |it| Tree::Label(D, it.into()));

@@ -5,7 +5,7 @@ mod clock;
 mod inputs;
 mod proved;
 
-use clock::{compare, Compared};
+use clock::{compare, head, row, Compared};
 use inputs::Input;
 use second::answers::{deep, Judged, Refusal};
 use second::bundles;
@@ -105,22 +105,6 @@ fn compare_fit(input: &Input) -> Compared {
     compare(&mut || proved::fit(&tables, input.sheet.a), &mut || {
         second_fit(&input.sheet)
     })
-}
-
-fn head(title: &str) {
-    println!("\n{title}");
-    println!(
-        "{:<40} {:>12} {:>12} {:>7}  least to greatest",
-        "", "proved", "second", "times"
-    );
-}
-
-fn row(name: &str, it: &Compared) {
-    let [least, median, greatest] = it.times;
-    let (first, other) = (it.first * 1e6, it.other * 1e6);
-    println!(
-        "{name:<40} {first:>9.2} us {other:>9.2} us {median:>7.2}  {least:.2} to {greatest:.2}"
-    );
 }
 
 fn speed() {
