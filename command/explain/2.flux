@@ -1,0 +1,3 @@
+# A variable that is not in scope: of a text the line is named.
+from () to text
+script insert found

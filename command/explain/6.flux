@@ -1,0 +1,4 @@
+# A procedure that calls itself for ever.
+from () to ()
+procedure again() from () to () = again()
+script again()
