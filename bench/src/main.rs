@@ -7,9 +7,10 @@ mod proved;
 
 use clock::{compare, head, row, Compared};
 use inputs::Input;
-use second::answers::{deep, Judged, Refusal};
+use second::answers::{deep, Judged};
 use second::bundles;
 use second::cases::Cases;
+use second::refusals::Refusal;
 use second::shape::well_shaped;
 use second::tables::Sheet;
 use std::path::Path;

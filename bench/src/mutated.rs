@@ -5,11 +5,12 @@ mod archive;
 mod mutants;
 
 use archive::Reply;
-use second::answers::{deep, Judged, Lent, Refusal, RESULT_ROWS, WORKING_ROWS};
+use second::answers::{deep, Judged, Lent, RESULT_ROWS, WORKING_ROWS};
 use second::bundles;
 use second::cases::Cases;
 use second::dice::Dice;
 use second::forests::Forest;
+use second::refusals::Refusal;
 use second::tables::Sheet;
 use std::process::ExitCode;
 

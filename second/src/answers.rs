@@ -1,94 +1,20 @@
-//! Document 01, "Refusals by number": the refusals, their order, and what is printed.
+//! Document 01, "Refusals by number": the order of refusals in each question, and what is printed.
 
 use crate::bundles;
 use crate::check::{check, Checked};
 use crate::forests::Forest;
 use crate::places::{lowest_tie, Fit};
+use crate::refusals::Refusal;
 use crate::run::{run, Ran};
 use crate::tables::Sheet;
-use crate::types::Types;
+use crate::types::{declared_types, Types};
+pub use notation::deep;
 use std::fmt::Write;
 
 /// The working rows that the program `apply` lends.
 pub const WORKING_ROWS: usize = 6_144;
 /// The result rows that the program `apply` lends.
 pub const RESULT_ROWS: usize = 8_192;
-
-/// "A carried row … is the one whose rule asks, with 1 for a query, 2 for a statement"; 0 "for a
-/// declared output".
-#[derive(Clone, Copy, Debug, PartialEq, Eq)]
-pub enum Asker {
-    Declaration,
-    Query(u16),
-    Statement(u16),
-}
-
-impl Asker {
-    fn carried(self) -> (u16, u16) {
-        match self {
-            Asker::Declaration => (0, 0),
-            Asker::Query(row) => (row, 1),
-            Asker::Statement(row) => (row, 2),
-        }
-    }
-}
-
-#[derive(Clone, Copy, Debug, PartialEq, Eq)]
-pub enum Refusal {
-    Block,
-    Shape,
-    Barren { name: u16 },
-    Tie { row: u16, rival: u16 },
-    Fuel,
-    Depth,
-    Wide(Asker),
-    Mismatch(Asker),
-    NotIncluded(Asker),
-    Unfit,
-    Stuck(Asker),
-    Scratch,
-    Room,
-}
-
-impl Refusal {
-    /// The number in the table of refusals.
-    pub fn number(self) -> u16 {
-        match self {
-            Refusal::Block => 1,
-            Refusal::Shape => 2,
-            Refusal::Barren { .. } => 3,
-            Refusal::Tie { .. } => 4,
-            Refusal::Fuel => 5,
-            Refusal::Depth => 6,
-            Refusal::Wide(_) => 7,
-            Refusal::Mismatch(_) => 8,
-            Refusal::NotIncluded(_) => 9,
-            Refusal::Unfit => 10,
-            Refusal::Stuck(_) => 11,
-            Refusal::Scratch => 12,
-            Refusal::Room => 13,
-        }
-    }
-
-    /// The two carried values, 0 where there is none.
-    pub fn carried(self) -> (u16, u16) {
-        match self {
-            Refusal::Barren { name } => (name, 0),
-            Refusal::Tie { row, rival } => (row, rival),
-            Refusal::Wide(asker)
-            | Refusal::Mismatch(asker)
-            | Refusal::NotIncluded(asker)
-            | Refusal::Stuck(asker) => asker.carried(),
-            Refusal::Block
-            | Refusal::Shape
-            | Refusal::Fuel
-            | Refusal::Depth
-            | Refusal::Unfit
-            | Refusal::Scratch
-            | Refusal::Room => (0, 0),
-        }
-    }
-}
 
 /// A question's answer: what it gives or why it refuses, and the units of its walk, 0 if not begun.
 #[derive(Clone, Debug, PartialEq)]
@@ -138,7 +64,7 @@ impl<'a> Judged<'a> {
         let refusal = match barren {
             Some(name) => Some(Refusal::Barren { name }),
             None => {
-                let tie = lowest_tie(&types, &sheet.declared_types());
+                let tie = lowest_tie(&types, &declared_types(sheet));
                 tie.map(|(row, rival)| Refusal::Tie { row, rival })
             }
         };
@@ -360,15 +286,4 @@ fn listing(bundle: &[u8]) -> String {
     line(&mut text, format_args!("run 0 {} {root}", run.units));
     print_rows(&mut text, &written);
     text
-}
-
-/// Works on a stack that is deep enough for forests and types nested to their limits.
-pub fn deep<T: Send + 'static>(work: impl FnOnce() -> T + Send + 'static) -> T {
-    const STACK_BYTES: usize = 256 << 20;
-    let thread = std::thread::Builder::new().stack_size(STACK_BYTES);
-    let worker = thread.spawn(work).expect("a thread can be started");
-    match worker.join() {
-        Ok(value) => value,
-        Err(panic) => std::panic::resume_unwind(panic),
-    }
 }

@@ -199,7 +199,8 @@ pub fn write_cases(seed: u64, count: usize, directory: &Path) -> Result<Histogra
     })
 }
 
-/// Writes a bundle for each rule of Shape broken alone, each sheet at the edge of a rule, and each fault of blocks: `RULE-NN.bundle`, `edge-NN.bundle`, `block-NN.bundle`.
+/// Writes a bundle for each rule of Shape broken alone, each sheet at the edge of a rule, and each fault of
+/// blocks: `RULE-NN.bundle`, `edge-NN.bundle`, `block-NN.bundle`.
 pub fn write_faults(directory: &Path) -> Result<(), String> {
     let told = |error: std::io::Error| format!("{}: {error}", directory.display());
     std::fs::create_dir_all(directory).map_err(told)?;

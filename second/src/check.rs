@@ -1,10 +1,10 @@
 //! Document 01, "How a check goes": the rules of document 000, figures 4 and 13, with their units.
 //! Each row goes thus: unit, focus, parts in the order written, their values, rows written.
 
-use crate::answers::{Asker, Refusal};
 use crate::inclusion;
 use crate::places;
 use crate::purse::Purse;
+use crate::refusals::{Asker, Refusal};
 use crate::run::matches;
 use crate::scope::Scope;
 use crate::tables::{last_row, Query, Sheet, Statement, Type};

@@ -13,8 +13,11 @@ use std::process::{Child, Command, Stdio};
 use std::sync::mpsc;
 use std::time::Duration;
 
-const USAGE: &str = "usage: second compare [--apply] [--only WORD,WORD...] PROGRAM DIR
-PROGRAM is a path, or a path and its first arguments in one word, with blanks between";
+const USAGE: &str = "usage: second compare [--apply] [--only WORD,WORD...] PROGRAM DIR";
+
+/// The first words of the lines of `answers`, and those of the listing of `apply`.
+const QUESTIONS: [&str; 5] = ["read", "check", "fit", "run", "apply"];
+const LISTED: [&str; 4] = ["load", "check", "fit", "run"];
 
 /// A program that gives no answer for so long is ended.
 const PATIENCE: Duration = Duration::from_secs(20);
@@ -23,23 +26,15 @@ const SHRINKING_STARTS: usize = 4_000;
 /// How many lines of an answer are shown.
 const SHOWN_LINES: usize = 40;
 
-/// Compares, prints a report, and gives the exit status: 0 no difference, 1 some, 2 not done.
-pub fn main_compare(args: &[String]) -> i32 {
-    match Comparison::of(args).and_then(|comparison| comparison.report()) {
-        Ok(report) => {
-            print!("{}", report.text);
-            i32::from(report.differences > 0)
-        }
-        Err(message) => {
-            eprintln!("{message}");
-            2
-        }
-    }
+/// How many cases differ, and what is to be said of it.
+pub struct Report {
+    pub differences: usize,
+    pub text: String,
 }
 
-struct Report {
-    differences: usize,
-    text: String,
+/// Compares as the words say, or says in a line why not.
+pub fn compare(words: &[&str]) -> Result<Report, String> {
+    Comparison::of(words)?.report()
 }
 
 /// What is compared with what.
@@ -68,21 +63,25 @@ struct Difference {
 }
 
 impl Comparison {
-    fn of(args: &[String]) -> Result<Comparison, String> {
+    fn of(words: &[&str]) -> Result<Comparison, String> {
         let mut apply = false;
         let mut only = Vec::new();
         let mut places = Vec::new();
-        let mut args = args.iter();
-        while let Some(arg) = args.next() {
-            match arg.as_str() {
+        let mut words = words.iter();
+        while let Some(word) = words.next() {
+            match *word {
                 "--apply" => apply = true,
-                "--only" => only.extend(args.next().ok_or(USAGE)?.split(',').map(str::to_string)),
-                _ => places.push(arg),
+                "--only" => only.extend(words.next().ok_or(USAGE)?.split(',').map(str::to_string)),
+                flag if flag.starts_with("--") => {
+                    return Err(format!("there is no {flag}; {USAGE}"))
+                }
+                place => places.push(place),
             }
         }
         let [program, directory] = places[..] else {
             return Err(USAGE.into());
         };
+        check_only(&only, if apply { &LISTED } else { &QUESTIONS })?;
         Ok(Comparison {
             program: program.split_whitespace().map(str::to_string).collect(),
             directory: directory.into(),
@@ -255,7 +254,24 @@ fn bundles_in(directory: &Path) -> Result<Vec<PathBuf>, String> {
         }
     }
     paths.sort();
+    if paths.is_empty() {
+        return Err(format!(
+            "{}: there is no case, no file *.bundle",
+            directory.display()
+        ));
+    }
     Ok(paths)
+}
+
+/// Refuses a word that begins no line, with which nothing would be compared.
+fn check_only(only: &[String], known: &[&str]) -> Result<(), String> {
+    match only.iter().find(|word| !known.contains(&word.as_str())) {
+        Some(word) => Err(format!(
+            "--only {word:?} is unknown; there are {}",
+            known.join(", ")
+        )),
+        None => Ok(()),
+    }
 }
 
 /// A started program that is being handed a bundle.

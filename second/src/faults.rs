@@ -3,7 +3,7 @@
 
 use crate::bundles::{block, to_bundle};
 use crate::forests::{Forest, Tree};
-use crate::scripts::{nested, Declaration, Qu, Script, St, Ty};
+use crate::scripts::{nested, AddRows, Declaration, Qu, Script, St, Ty};
 use crate::shape;
 use crate::tables::{Sheet, Test};
 

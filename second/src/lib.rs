@@ -2,14 +2,14 @@
 //!
 //! | Document 01 | Module |
 //! |---|---|
-//! | Tables | `tables` (rows), `shape` (the rules), `forests` (forests as values and rows) |
+//! | Tables | `tables` (rows, in the library `notation`), `shape` (the rules), `forests` (forests as values and rows) |
 //! | Ties | `types` (atoms, heads, Barren), `places` (Tie, fit) |
 //! | How a run goes | `run`, with `purse` for units and depth, `scope` for variables |
 //! | How a check goes | `check`, with `inclusion` |
-//! | Refusals by number | `answers` |
-//! | Bundles | `bundles` |
+//! | Refusals by number | `refusals`, and `answers` (their order, each question) |
+//! | Bundles | `bundles` (what is refused; the bytes are in the library `notation`) |
 //!
-//! `notation` is the text people write. `cases` makes random bundles and `faults` damaged ones, from
+//! The library `notation` has the text people write, and the bytes of bundles. `cases` makes random bundles and `faults` damaged ones, from
 //! trees of `scripts` and numbers of `dice`; `compare` runs another program on them.
 
 pub mod answers;
@@ -21,12 +21,14 @@ pub mod dice;
 pub mod faults;
 pub mod forests;
 pub mod inclusion;
-pub mod notation;
 pub mod places;
 pub mod purse;
+pub mod refusals;
 pub mod run;
 pub mod scope;
 pub mod scripts;
 pub mod shape;
-pub mod tables;
 pub mod types;
+
+pub use notation;
+pub use notation::tables;

@@ -1,6 +1,6 @@
 //! Units and depth, the same in a run and in a check.
 
-use crate::answers::Refusal;
+use crate::refusals::Refusal;
 
 /// "depth 200".
 const DEPTH: u16 = 200;

@@ -1,9 +1,9 @@
 //! Document 01, "How a run goes": the rules of document 000, figures 3 and 12, with their units.
 //! Each row goes thus: unit, focus, parts in the order written, their values, copies.
 
-use crate::answers::{Asker, Refusal};
 use crate::forests::{Forest, Tree};
 use crate::purse::Purse;
+use crate::refusals::{Asker, Refusal};
 use crate::scope::Scope;
 use crate::tables::{Query, Sheet, Statement, Test};
 use crate::types::Head;

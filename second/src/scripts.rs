@@ -112,8 +112,15 @@ impl Script {
 }
 
 /// Adds the rows of a tree below its own row, and gives that row.
-impl Sheet {
-    pub fn add_type(&mut self, ty: &Ty) -> u16 {
+pub trait AddRows {
+    fn add_type(&mut self, ty: &Ty) -> u16;
+    fn add_query(&mut self, query: &Qu) -> u16;
+    fn add_statement(&mut self, statement: &St) -> u16;
+    fn add_procedure(&mut self, procedure: &Declaration) -> [u16; 5];
+}
+
+impl AddRows for Sheet {
+    fn add_type(&mut self, ty: &Ty) -> u16 {
         let row = match ty {
             Ty::Empty => [1, 0, 0],
             Ty::Text => [2, 0, 0],
@@ -128,7 +135,7 @@ impl Sheet {
         last_row(&self.types)
     }
 
-    pub fn add_query(&mut self, query: &Qu) -> u16 {
+    fn add_query(&mut self, query: &Qu) -> u16 {
         let row = match query {
             Qu::Empty => [1, 0, 0, 0],
             Qu::Join(p, q) => [2, self.add_query(p), self.add_query(q), 0],
@@ -148,7 +155,7 @@ impl Sheet {
         last_row(&self.queries)
     }
 
-    pub fn add_statement(&mut self, statement: &St) -> u16 {
+    fn add_statement(&mut self, statement: &St) -> u16 {
         let row = match statement {
             St::Skip => [1, 0, 0, 0],
             St::Then(p, q) => [2, self.add_statement(p), self.add_statement(q), 0],
@@ -178,7 +185,7 @@ impl Sheet {
         last_row(&self.statements)
     }
 
-    pub fn add_procedure(&mut self, procedure: &Declaration) -> [u16; 5] {
+    fn add_procedure(&mut self, procedure: &Declaration) -> [u16; 5] {
         let mut rows = procedure.parameters.iter().map(|it| self.add_type(it));
         let mut parameter = || rows.next().unwrap_or(0);
         [

@@ -2,6 +2,8 @@
 //! Each rule is one function over the words of the sheet, and total: a sheet may break many.
 
 use crate::tables::{last_row, row, Procedure, Sheet};
+pub use notation::limits::*;
+pub use notation::tables::Variable;
 
 /// A table whose rows have users.
 #[derive(Clone, Copy, Debug, PartialEq, Eq)]
@@ -45,24 +47,6 @@ pub struct Word {
     pub role: Role,
     pub value: u16,
 }
-
-/// "a forest variable or, for *for*, a tree variable".
-#[derive(Clone, Copy, Debug, PartialEq, Eq)]
-pub enum Variable {
-    Forest,
-    Tree,
-}
-
-pub const NAMES: usize = 32;
-pub const TYPE_ROWS: usize = 512;
-pub const QUERY_ROWS: usize = 512;
-pub const STATEMENT_ROWS: usize = 512;
-pub const PROCEDURES: usize = 16;
-pub const SCOPE: usize = 16;
-pub const LAST_LABEL: u16 = 1023;
-pub const FOREST_ROWS: usize = 2048;
-pub const POOL_BYTES: usize = 16384;
-pub const FUEL: u16 = 4096;
 
 /// What the rules look at: the sheet, all its words and the scope at each query and statement row.
 pub struct Reading<'a> {

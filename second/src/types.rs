@@ -2,7 +2,7 @@
 //! Places and fit are in `places`, inclusion in `inclusion`.
 
 use crate::forests::Tree;
-use crate::tables::{last_row, Sheet, Type};
+use crate::tables::{last_row, Procedure, Sheet, Type};
 
 /// "The *head* of an atom is text, bool or its label."
 #[derive(Clone, Copy, Debug, PartialEq, Eq, PartialOrd, Ord, Hash)]
@@ -185,4 +185,18 @@ impl Types {
         };
         self.write(row)
     }
+}
+
+/// "All declared types": A, B, each name's row, parameters, inputs and outputs.
+pub fn declared_types(sheet: &Sheet) -> Vec<u16> {
+    let procedures = sheet.procedures.iter().flat_map(|&words| {
+        let it = Procedure::of(words);
+        it.parameter_types().chain([it.input, it.output])
+    });
+    let names = sheet.names.iter().copied();
+    [sheet.a, sheet.b]
+        .into_iter()
+        .chain(names)
+        .chain(procedures)
+        .collect()
 }

@@ -110,3 +110,41 @@ fn what_cannot_be_done_is_said() {
         assert!(!output.stderr.is_empty());
     }
 }
+
+/// The one line of a call that is refused.
+fn refused(args: &[&str], folder: &Path) -> String {
+    let output = compare(args, folder);
+    let line = String::from_utf8_lossy(&output.stderr).to_string();
+    assert_eq!(output.status.code(), Some(2), "{line}");
+    assert_eq!(
+        (line.lines().count(), printed(&output)),
+        (1, String::new()),
+        "{line}"
+    );
+    line
+}
+
+#[test]
+fn what_compares_nothing_is_refused() {
+    let folder = cases("nothing");
+    let answers = format!("{SECOND} answers");
+    let apply = format!("{SECOND} apply");
+    let line = refused(&["--only", "read,reed", &answers], &folder);
+    assert!(
+        line.contains("\"reed\" is unknown; there are read, check, fit, run, apply"),
+        "{line}"
+    );
+    let line = refused(&["--apply", "--only", "read", &apply], &folder);
+    assert!(
+        line.contains("\"read\" is unknown; there are load, check, fit, run"),
+        "{line}"
+    );
+    let line = refused(&["--onyl", "read", &answers], &folder);
+    assert!(line.contains("there is no --onyl"), "{line}");
+    let empty = folder.join("empty");
+    std::fs::create_dir_all(&empty).expect("a folder");
+    assert!(refused(&[&answers], &empty).contains("there is no case"));
+    std::fs::write(empty.join("notes"), "no bundle").expect("a file");
+    assert!(refused(&[&answers], &empty).contains("there is no case"));
+    assert!(refused(&[" "], &folder).contains("usage"));
+}

@@ -1,8 +1,9 @@
 //! Each rule under Tables broken alone, its edge kept; the blocks of bundles.
 
-use second::answers::{answers, apply_listing, Refusal};
+use second::answers::{answers, apply_listing};
 use second::bundles::{counts, read, read_within, to_bundle, unframe, write};
 use second::faults::{block_faults, edges, every_kind, faults, remainder_zero};
+use second::refusals::Refusal;
 use second::shape::{broken_rules, RULES};
 
 #[test]

@@ -1,8 +1,9 @@
 //! Ties and barren names by their lowest rows, Wide at its edge, and what names act as.
 
-use second::answers::{Asker, Judged, Refusal};
+use second::answers::Judged;
 use second::check::{check, output_type};
 use second::forests::{Forest, Tree};
+use second::refusals::{Asker, Refusal};
 use second::scripts::{nested, Declaration, Qu, Script, St, Ty};
 use second::shape::well_shaped;
 use second::tables::Test;

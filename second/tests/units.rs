@@ -1,9 +1,9 @@
 //! The units of each kind of row in a run and in a check, counted by hand from document 01, and the
 //! order in which refusals are met.
 
-use second::answers::{Asker, Refusal};
 use second::check::check;
 use second::forests::{Forest, Tree};
+use second::refusals::{Asker, Refusal};
 use second::run::run;
 use second::scripts::{Declaration, Qu, Script, St, Ty};
 use second::shape::well_shaped;

@@ -1,11 +1,12 @@
 //! Document 01, "Worked on paper": P1 to P12, the recursion example and the listing.
 
-use second::answers::{answers, apply_listing, Asker, Judged, Lent, Refusal};
+use second::answers::{answers, apply_listing, Judged, Lent};
 use second::bundles::to_bundle;
 use second::check::{check, output_type};
 use second::forests::{Forest, Tree};
 use second::inclusion::refute;
 use second::places::is_of;
+use second::refusals::{Asker, Refusal};
 use second::run::{run, run_query};
 use second::scripts::{Declaration, Qu, Script, St, Ty};
 use second::shape::well_shaped;

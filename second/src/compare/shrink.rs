@@ -1,9 +1,9 @@
 //! Smaller sheets in which a difference stays.
 
-use crate::notation::put;
-use crate::notation::words::{self, is_text, Word};
 use crate::shape::well_shaped;
 use crate::tables::Sheet;
+use notation::put;
+use notation::words::{self, is_text, Word};
 
 /// One way to make a sheet smaller. Rows and numbers count from 1.
 #[derive(Clone, Copy)]

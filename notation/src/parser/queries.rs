@@ -2,25 +2,48 @@
 
 use super::tokens::is_reserved;
 use super::{Parsed, Parser};
-use crate::notation::drafts::Origin;
-use crate::notation::lexer::{Place, Token};
-use crate::notation::words::Word;
-use crate::shape::Variable;
+use crate::drafts::Origin;
+use crate::faults::{shown, Place};
+use crate::lexer::Token;
+use crate::tables::Variable;
+use crate::words::Word;
+
+/// The words whose last part ends at a comma, so that a list there needs brackets.
+const OPEN_ENDED: [&str; 3] = ["let", "if", "for"];
 
 impl<'a> Parser<'a> {
     pub(super) fn query(&mut self) -> Parsed {
-        let left = self.single()?;
-        let Some(origin) = self.introduced(",")? else {
-            return Ok(left);
-        };
-        let right = self.query()?;
-        self.drafts.queries.add(origin, [2, left, right, 0])
+        self.list(",", Self::listed, |parser, origin, left, right| {
+            parser.add_query(origin, [2, left, right, 0])
+        })
+    }
+
+    /// One part of a list. A comma after an open-ended one is told: it can be read in two ways.
+    fn listed(&mut self) -> Parsed {
+        let word = self.open_ended();
+        let row = self.single()?;
+        if let Some(word) = word.filter(|_| self.stands(",")) {
+            let last = match word {
+                "let" => "in",
+                "if" => "else",
+                _ => "return",
+            };
+            let message = format!("this comma, after `{word}`, can be read in two ways");
+            let hint = format!("write `({word} ...), ...` or `{last} (..., ...)`");
+            self.faults.push(self.place().fault(message).hint(hint));
+        }
+        Ok(row)
+    }
+
+    /// The open-ended word that stands here.
+    fn open_ended(&self) -> Option<&'static str> {
+        OPEN_ENDED.into_iter().find(|word| self.stands(word))
     }
 
     /// A query without a comma of its own.
     pub(super) fn single(&mut self) -> Parsed {
         self.nested(|parser| {
-            if !["let", "if", "for"].iter().any(|word| parser.stands(word)) {
+            if parser.open_ended().is_none() {
                 return parser.same_query();
             }
             let (word, origin) = parser.opening("a query")?;
@@ -29,7 +52,7 @@ impl<'a> Parser<'a> {
                 "if" => parser.if_query_row()?,
                 _ => parser.for_row()?,
             };
-            parser.drafts.queries.add(origin, row)
+            parser.add_query(origin, row)
         })
     }
 
@@ -41,7 +64,7 @@ impl<'a> Parser<'a> {
 
     /// `x = query in`, after `let`.
     pub(super) fn let_binding(&mut self) -> Parsed<((&'a str, Place), u16)> {
-        let variable = self.binder()?;
+        let variable = self.binder("=")?;
         self.expect("=")?;
         let value = self.query()?;
         self.expect("in")?;
@@ -58,7 +81,7 @@ impl<'a> Parser<'a> {
     }
 
     fn for_row(&mut self) -> Parsed<[u16; 4]> {
-        let variable = self.binder()?;
+        let variable = self.binder("in")?;
         self.expect("in")?;
         let trees = self.query()?;
         self.expect("return")?;
@@ -67,19 +90,21 @@ impl<'a> Parser<'a> {
     }
 
     fn same_query(&mut self) -> Parsed {
+        let start = self.start();
         let left = self.picked()?;
         let Some(origin) = self.introduced("=")? else {
             return Ok(left);
         };
         let right = self.picked()?;
-        self.drafts.queries.add(origin, [10, left, right, 0])
+        self.add_query(origin.from(start), [10, left, right, 0])
     }
 
     fn picked(&mut self) -> Parsed {
+        let start = self.start();
         let mut row = self.primary()?;
         while let Some(origin) = self.introduced("::")? {
             let label = self.label()?;
-            row = self.drafts.queries.add(origin, [12, row, label, 0])?;
+            row = self.add_query(origin.from(start), [12, row, label, 0])?;
         }
         Ok(row)
     }
@@ -94,46 +119,54 @@ impl<'a> Parser<'a> {
         }
         let (word, origin) = self.opening("a query")?;
         match word {
-            "true" => self.drafts.queries.add(origin, [5, 0, 0, 0]),
-            "false" => self.drafts.queries.add(origin, [6, 0, 0, 0]),
+            "true" => self.add_query(origin, [5, 0, 0, 0]),
+            "false" => self.add_query(origin, [6, 0, 0, 0]),
             "children" => self.children_query(origin),
-            _ if is_reserved(word) => Err(self.expected_at(at, "a query")),
+            _ if is_reserved(word) && !self.stands("[") => Err(self.expected_at(at, "a query")),
             _ => self.named_query(word, origin),
         }
     }
 
     fn text_query(&mut self) -> Parsed {
         let (origin, text) = self.text()?;
-        let row = self.drafts.queries.add(origin, [4, 0, 0, 0])?;
+        let row = self.add_query(origin, [4, 0, 0, 0])?;
         self.drafts.texts.push((Word::Query, row, text));
         Ok(row)
     }
 
     fn children_query(&mut self, origin: Origin) -> Parsed {
         self.expect("(")?;
-        let (name, place) = self.binder()?;
-        let (number, kind) = self.variable(name, place)?;
+        let (name, place) = self.binder(")")?;
+        let (number, kind) = self.variable(name, place).unwrap_or((0, Variable::Tree));
         if kind != Variable::Tree {
-            return Err(place.error(format!(
-                "children needs a variable of `for`, and `{name}` is none"
-            )));
+            let message = format!(
+                "children needs a variable of `for`, and {} is none",
+                shown(name)
+            );
+            let hint = "for each tree of it: `for t in ... return children(t)`";
+            self.faults.push(place.fault(message).hint(hint));
         }
         self.expect(")")?;
-        self.drafts.queries.add(origin, [11, number, 0, 0])
+        self.add_query(origin, [11, number, 0, 0])
     }
 
     /// A tree or a variable.
-    fn named_query(&mut self, word: &str, origin: Origin) -> Parsed {
+    fn named_query(&mut self, word: &'a str, origin: Origin) -> Parsed {
         if !self.accept("[") {
-            let (number, _) = self.variable(word, origin.place)?;
-            return self.drafts.queries.add(origin, [7, number, 0, 0]);
+            let number = self
+                .variable(word, origin.sign)
+                .map_or(0, |(number, _)| number);
+            return self.add_query(origin, [7, number, 0, 0]);
         }
-        let label = self.label_number(word, origin.place)?;
+        if is_reserved(word) {
+            self.tell_reserved(word, origin.sign, "a label");
+        }
+        let label = self.label_number(word, origin.sign);
         let content = self.content(Self::query, Self::empty_query)?;
-        self.drafts.queries.add(origin, [3, label, content, 0])
+        self.add_query(origin, [3, label, content, 0])
     }
 
     fn empty_query(&mut self, origin: Origin) -> Parsed {
-        self.drafts.queries.add(origin, [1, 0, 0, 0])
+        self.add_query(origin, [1, 0, 0, 0])
     }
 }

@@ -1,39 +1,71 @@
 //! From a sheet to text: the functions follow the grammar at the end of docs/NOTATION.md, as those of
 //! the parser do.
 
-use super::layout::Layout;
-use super::order::{text_of, Notes};
-use super::words::{self, Word};
-use crate::shape::Variable;
-use crate::tables::{row, Node, Query, Sheet, Statement, Test, Type};
+use crate::layout::Layout;
+use crate::order::{text_of, Notes};
+use crate::places::Names;
+use crate::tables::{row, Node, Query, Sheet, Statement, Test, Type, Variable};
+use crate::words::{self, Word};
 use std::collections::BTreeSet;
 
-pub fn print(sheet: &Sheet) -> String {
-    let printer = Printer {
-        sheet,
-        notes: Notes::of(sheet),
-        layout: Layout::default(),
-        scope: Vec::new(),
+/// The whole sheet.
+pub fn print(sheet: &Sheet, names: &Names) -> String {
+    let mut printer = Printer::new(sheet, names, Notes::of(sheet));
+    printer.labels(&labels_of(sheet));
+    printer.script_sections();
+    printer.forest_section();
+    printer.layout.finish()
+}
+
+/// All but the forest, with the labels and marks that the rest needs.
+pub fn print_script(sheet: &Sheet, names: &Names) -> String {
+    let rest = Sheet {
+        forest: Vec::new(),
+        root: 0,
+        ..sheet.clone()
     };
-    printer.sheet()
+    let mut printer = Printer::new(&rest, names, Notes::of(&rest));
+    printer.labels(&labels_of(&rest));
+    printer.script_sections();
+    printer.layout.finish()
+}
+
+/// The forest with its labels, whatever its row numbers and its places in the pool.
+pub fn print_forest(sheet: &Sheet, names: &Names) -> String {
+    let mut printer = Printer::new(sheet, names, Notes::default());
+    let rows = sheet.forest.iter().filter(|row| row[0] == 4);
+    printer.labels(&rows.map(|row| row[1]).collect());
+    printer.forest_section();
+    printer.layout.finish()
 }
 
 struct Printer<'a> {
     sheet: &'a Sheet,
+    names: &'a Names,
     notes: Notes,
     layout: Layout,
     scope: Vec<Variable>,
 }
 
 /// Sections.
-impl Printer<'_> {
-    fn sheet(mut self) -> String {
-        self.label_table();
+impl<'a> Printer<'a> {
+    fn new(sheet: &'a Sheet, names: &'a Names, notes: Notes) -> Printer<'a> {
+        Printer {
+            sheet,
+            names,
+            notes,
+            layout: Layout::default(),
+            scope: Vec::new(),
+        }
+    }
+
+    fn script_sections(&mut self) {
         if self.notes.pool_shown {
             self.pool();
         }
         for (number, row) in (1..).zip(&self.sheet.names) {
-            self.layout.word(format!("type {} = ", type_name(number)));
+            self.layout
+                .word(format!("type {} = ", self.names.type_name(number)));
             self.grouped(|printer| printer.atom(*row));
             self.layout.gap("");
         }
@@ -48,14 +80,15 @@ impl Printer<'_> {
         self.layout.word("script");
         self.below(|printer| printer.statement(printer.sheet.main));
         self.layout.gap("");
+    }
+
+    fn forest_section(&mut self) {
         self.layout.word("forest");
         self.below(Self::forest);
         self.layout.gap("");
-        self.layout.finish()
     }
 
-    fn label_table(&mut self) {
-        let labels = labels_of(self.sheet);
+    fn labels(&mut self, labels: &BTreeSet<u16>) {
         if labels.is_empty() {
             return;
         }
@@ -68,7 +101,7 @@ impl Printer<'_> {
                 self.layout.gap("");
             }
             self.layout
-                .word(format!(" {} = {number}", label_name(*number)));
+                .word(format!(" {} = {number}", self.names.label(*number)));
         }
         self.layout.gap("");
     }
@@ -91,7 +124,7 @@ impl Printer<'_> {
 
     fn procedure(&mut self, number: u16, [first, second, input, output, body]: [u16; 5]) {
         self.layout
-            .word(format!("procedure {}(", procedure_name(number)));
+            .word(format!("procedure {}(", self.names.procedure(number)));
         for row in [first, second].into_iter().filter(|row| *row != 0) {
             if !self.scope.is_empty() {
                 self.layout.word(", ");
@@ -234,11 +267,11 @@ impl Printer<'_> {
             Type::Text => self.sign(Word::Type, row, "text"),
             Type::Bool => self.sign(Word::Type, row, "bool"),
             Type::Label { label, content } => {
-                self.sign(Word::Type, row, &label_name(label));
+                self.sign(Word::Type, row, &self.names.label(label));
                 let is_empty = self.type_at(content) == Type::Empty;
                 self.content(Word::Type, content, is_empty, Self::types);
             }
-            Type::Name(name) => self.sign(Word::Type, row, &type_name(name)),
+            Type::Name(name) => self.sign(Word::Type, row, &self.names.type_name(name)),
             Type::Sequence(..) | Type::Choice(..) | Type::Star(_) => {
                 self.enclosed("(", ")", |printer| printer.types(row));
             }
@@ -252,10 +285,20 @@ impl Printer<'_> {
         let Query::Join(left, right) = self.sheet.query(row) else {
             return self.single(row);
         };
-        self.single(left);
+        self.listed(left);
         self.sign(Word::Query, row, ",");
         self.layout.gap(" ");
         self.query(right);
+    }
+
+    /// A part of a list that a comma follows: an open-ended one stands between brackets.
+    fn listed(&mut self, row: u16) {
+        match self.sheet.query(row) {
+            Query::Let { .. } | Query::If { .. } | Query::For { .. } => {
+                self.enclosed("(", ")", |printer| printer.single(row));
+            }
+            _ => self.single(row),
+        }
     }
 
     fn single(&mut self, row: u16) {
@@ -326,14 +369,14 @@ impl Printer<'_> {
         self.picked(from);
         self.layout.word(" ");
         self.sign(Word::Query, row, "::");
-        self.layout.word(format!(" {}", label_name(label)));
+        self.layout.word(format!(" {}", self.names.label(label)));
     }
 
     fn primary(&mut self, row: u16) {
         match self.sheet.query(row) {
             Query::Empty => self.sign(Word::Query, row, "()"),
             Query::Tree { label, content } => {
-                self.sign(Word::Query, row, &label_name(label));
+                self.sign(Word::Query, row, &self.names.label(label));
                 let is_empty = self.sheet.query(content) == Query::Empty;
                 self.content(Word::Query, content, is_empty, Self::query);
             }
@@ -380,7 +423,7 @@ impl Printer<'_> {
             Statement::Delete => self.sign(Word::Statement, row, "delete"),
             Statement::Rename { label } => {
                 self.sign(Word::Statement, row, "rename");
-                self.layout.word(format!(" {}", label_name(label)));
+                self.layout.word(format!(" {}", self.names.label(label)));
             }
             Statement::Let { value, body } => self.grouped(|printer| {
                 printer.let_binding(Word::Statement, row, value);
@@ -410,7 +453,7 @@ impl Printer<'_> {
     fn test(&mut self, row: u16, test: Test, body: u16) {
         let (word, rest) = match test {
             Test::Text => ("text".into(), "()? "),
-            Test::Label(label) => (label_name(label), "? "),
+            Test::Label(label) => (self.names.label(label), "? "),
             Test::Any => ("node".into(), "()? "),
         };
         self.sign(Word::Statement, row, &word);
@@ -425,7 +468,7 @@ impl Printer<'_> {
     }
 
     fn call(&mut self, row: u16, callee: u16, arguments: [u16; 2]) {
-        self.sign(Word::Statement, row, &procedure_name(callee));
+        self.sign(Word::Statement, row, &self.names.procedure(callee));
         self.layout.word("(");
         for (index, argument) in arguments.into_iter().filter(|row| *row != 0).enumerate() {
             if index > 0 {
@@ -463,7 +506,7 @@ impl Printer<'_> {
             Node::Text { .. } => self.text(Word::Forest, number),
             Node::Bool(value) => self.sign(Word::Forest, number, &value.to_string()),
             Node::Label { label, child } => {
-                self.sign(Word::Forest, number, &label_name(label));
+                self.sign(Word::Forest, number, &self.names.label(label));
                 match child {
                     0 => self.layout.word("[]"),
                     _ => self.enclosed("[", "]", |printer| printer.trees(child)),
@@ -481,18 +524,6 @@ fn variable_name(kind: Variable, number: usize) -> String {
     }
 }
 
-fn label_name(number: u16) -> String {
-    format!("l{number}")
-}
-
-fn type_name(number: u16) -> String {
-    format!("X{number}")
-}
-
-fn procedure_name(number: u16) -> String {
-    format!("p{number}")
-}
-
 fn labels_of(sheet: &Sheet) -> BTreeSet<u16> {
     let mut labels = BTreeSet::new();
     words::visit(&mut sheet.clone(), |meaning, word| {
@@ -504,7 +535,7 @@ fn labels_of(sheet: &Sheet) -> BTreeSet<u16> {
 }
 
 /// Bytes between quotes: letters, digits and ASCII signs as they are, all else by escapes.
-fn quoted(bytes: &[u8]) -> String {
+pub fn quoted(bytes: &[u8]) -> String {
     let mut text = String::from("\"");
     for chunk in bytes.utf8_chunks() {
         chunk.valid().chars().for_each(|c| push_char(&mut text, c));

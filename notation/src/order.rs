@@ -1,12 +1,13 @@
 //! The order in which the text of a sheet writes its rows, and what the text must say where the sheet
 //! differs from what that order alone would give.
 
-use super::drafts::{natural_place, put};
-use super::words::{self, is_text, Word};
+use crate::drafts::{natural_place, put};
 use crate::tables::Sheet;
+use crate::words::{self, is_text, Word};
 use std::collections::{BTreeMap, BTreeSet};
 
 /// What the text must say besides.
+#[derive(Default)]
 pub struct Notes {
     /// The rows that need a mark.
     pub marked: BTreeSet<(Word, u16)>,

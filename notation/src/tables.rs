@@ -1,5 +1,5 @@
 //! Document 01, "Tables": the sheet and what the words of each row mean.
-//! The rules that a sheet must keep are in `shape`.
+//! The rules that a sheet must keep are not judged here.
 
 /// The whole set of tables that a question is handed.
 #[derive(Clone, Debug, PartialEq, Eq, Default)]
@@ -62,6 +62,13 @@ impl Type {
             _ => return None,
         })
     }
+}
+
+/// "a forest variable or, for *for*, a tree variable".
+#[derive(Clone, Copy, Debug, PartialEq, Eq)]
+pub enum Variable {
+    Forest,
+    Tree,
 }
 
 /// "Queries (kind, p, q, r)"; numbers are query rows unless their field says otherwise.
@@ -260,19 +267,5 @@ impl Sheet {
     pub fn procedure(&self, number: u16) -> Procedure {
         let found = row(&self.procedures, number).map(Procedure::of);
         found.expect("a procedure that passed Shape")
-    }
-
-    /// "All declared types": A, B, each name's row, parameters, inputs and outputs.
-    pub fn declared_types(&self) -> Vec<u16> {
-        let procedures = self.procedures.iter().flat_map(|&words| {
-            let it = Procedure::of(words);
-            it.parameter_types().chain([it.input, it.output])
-        });
-        let names = self.names.iter().copied();
-        [self.a, self.b]
-            .into_iter()
-            .chain(names)
-            .chain(procedures)
-            .collect()
     }
 }
