@@ -1,7 +1,6 @@
 //! Apply through the archive for C and through the second program, from a bundle to its rows; and the reader's share of it.
 
 #[allow(dead_code)]
-mod archive;
 #[allow(dead_code)]
 mod clock;
 #[allow(dead_code)]

@@ -1,7 +1,6 @@
 //! Mutated bundles through the archive for C and through the second program, in one process: every answer, unit, root and lent byte compared.
 //! `mutated SEED COUNT` prints how many cases there were, how many answers of each number, how many different.
 
-mod archive;
 mod mutants;
 
 use archive::Reply;

@@ -1,3 +1,3 @@
-# A variable that is not in scope: of a text the line is named.
-from () to text
-script insert found
+# The types have two rows, and there is no row 9. Other broken rules of a text are told by the notation, with their line.
+from () to ()
+script skip

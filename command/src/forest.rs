@@ -1,6 +1,6 @@
 //! Forest rows as text, labels by name: a description in the notation.
 
-use crate::sources::Names;
+use notation::{quoted, Names};
 use std::collections::BTreeSet;
 use std::fmt::Write;
 
@@ -10,19 +10,11 @@ const DEEPEST: usize = 48;
 
 /// A description that a script takes as it is: the labels that are used, and the forest.
 pub fn description(rows: &[[u16; 4]], root: u16, pool: &[u8], names: &Names) -> String {
-    format!(
-        "{}forest\n{}",
-        label_lines(rows, names),
-        trees(rows, root, pool, names)
-    )
+    format!("{}forest\n{}", label_lines(rows, names), trees(rows, root, pool, names))
 }
 
 fn label_lines(rows: &[[u16; 4]], names: &Names) -> String {
-    let used: BTreeSet<u16> = rows
-        .iter()
-        .filter(|row| row[0] == 4)
-        .map(|row| row[1])
-        .collect();
+    let used: BTreeSet<u16> = rows.iter().filter(|row| row[0] == 4).map(|row| row[1]).collect();
     let mut text = String::new();
     let mut line = String::from("labels");
     for (at, number) in used.iter().enumerate() {
@@ -48,13 +40,7 @@ pub fn trees(rows: &[[u16; 4]], root: u16, pool: &[u8], names: &Names) -> String
     if root == 0 {
         return "  ()\n".into();
     }
-    let mut printer = Printer {
-        rows,
-        pool,
-        names,
-        widths: Vec::new(),
-        text: String::new(),
-    };
+    let mut printer = Printer { rows, pool, names, widths: Vec::new(), text: String::new() };
     printer.widths = printer.all_widths();
     printer.trees(root, 1);
     printer.text
@@ -140,32 +126,5 @@ impl Printer<'_> {
             }
         }
         self.text.push(']');
-    }
-}
-
-/// Bytes between quotes: letters, digits and ASCII signs as they are, all else by escapes.
-fn quoted(bytes: &[u8]) -> String {
-    let mut text = String::from("\"");
-    for chunk in bytes.utf8_chunks() {
-        for c in chunk.valid().chars() {
-            match c {
-                '"' | '\\' => text.extend(['\\', c]),
-                '\n' => text.push_str("\\n"),
-                '\r' => text.push_str("\\r"),
-                '\t' => text.push_str("\\t"),
-                ' ' => text.push(c),
-                _ if c.is_ascii_graphic() || !c.is_ascii() && c.is_alphanumeric() => text.push(c),
-                _ => escape(&mut text, c.encode_utf8(&mut [0; 4]).as_bytes()),
-            }
-        }
-        escape(&mut text, chunk.invalid());
-    }
-    text.push('"');
-    text
-}
-
-fn escape(text: &mut String, bytes: &[u8]) {
-    for byte in bytes {
-        let _ = write!(text, "\\x{byte:02x}");
     }
 }

@@ -1,64 +1,41 @@
-//! Which tree of a description is at fault. The proved fit is asked about each tree's content by itself, from the top
-//! down, until a tree is found that has no place in its type, or trees that are right each by itself and not together.
+//! Which tree of a description is at fault, and what is wanted there. A type that is free of ties says of each tree which of
+//! its places it takes, from the left; the proved fit is asked about each tree's content, so that the way down is right.
 
 use crate::calls;
-use crate::sources::Work;
-use crate::tables;
-use crate::tokens::{sections, tokens};
-use second::forests::Forest;
-use second::tables::Sheet;
+use crate::inputs::Work;
+use notation::bundles;
+use notation::tables::Sheet;
+use notation::Names;
 
 pub struct Fault {
     /// The forest row concerned; 0 is the whole description.
     pub tree: u16,
     /// The type row that says what may stand there: a label's, or the one asked about.
     pub type_row: u16,
-    pub why: &'static str,
+    pub why: String,
 }
 
 pub fn fault(work: &Work, type_row: u16) -> Fault {
-    let sheet = &work.sheet;
-    let (mut first, mut model) = (sheet.root, type_row);
-    let mut fault = Fault {
-        tree: 0,
-        type_row,
-        why: "",
-    };
+    let Work { sheet, names, .. } = work;
+    let (mut parent, mut first) = (0, sheet.root);
+    let (mut type_row, mut model) = (type_row, type_row);
     'deeper: loop {
-        let mut atoms = Vec::new();
-        atoms_in(sheet, model, &mut atoms);
+        let mut left = vec![model];
+        let mut last = parent;
         for (number, row) in trees(sheet, first) {
-            let alike: Vec<u16> = atoms
-                .iter()
-                .copied()
-                .filter(|atom| one_head(sheet, *atom, row))
-                .collect();
-            if alike.is_empty() {
-                return Fault {
-                    tree: number,
-                    why: "no such tree may stand here",
-                    ..fault
-                };
-            }
-            let content = |atom: u16| sheet.types[usize::from(atom) - 1][2];
-            if row[0] != 4 || alike.iter().any(|atom| fits(sheet, row[2], content(*atom))) {
-                continue;
-            }
-            fault = Fault {
-                tree: number,
-                type_row: alike[0],
-                why: "what is in this tree is of none of its types",
+            let Some((atom, rest)) = taken(sheet, &left, row) else {
+                return Fault { tree: number, type_row, why: format!("here, {}", wanted(sheet, names, &left)) };
             };
-            if alike.len() > 1 {
-                return fault;
+            (left, last) = (rest, number);
+            let content = sheet.types[usize::from(atom) - 1][2];
+            if row[0] == 4 && !fits(sheet, row[2], content) {
+                (parent, first) = (number, row[2]);
+                (type_row, model) = (atom, content);
+                continue 'deeper;
             }
-            (first, model) = (row[2], content(alike[0]));
-            continue 'deeper;
         }
-        return Fault {
-            why: "trees are missing, too many or in another order here",
-            ..fault
-        };
+        let place = if last == parent { "in this," } else { "behind this," };
+        return Fault { tree: last, type_row, why: format!("{place} {}", wanted(sheet, names, &left)) };
     }
 }
 
@@ -74,17 +51,43 @@ fn trees(sheet: &Sheet, first: u16) -> Vec<(u16, [u16; 4])> {
     trees
 }
 
-/// The atoms of a type, a name as its label row.
-fn atoms_in(sheet: &Sheet, row: u16, atoms: &mut Vec<u16>) {
+/// The atom that a tree takes of the type rows that are left, one behind the other, and what is left then.
+fn taken(sheet: &Sheet, left: &[u16], tree: [u16; 4]) -> Option<(u16, Vec<u16>)> {
+    let (row, behind) = left.split_first()?;
+    match taken_of(sheet, *row, tree) {
+        Some((atom, rest)) => Some((atom, [&rest, behind].concat())),
+        None if may_be_empty(sheet, *row) => taken(sheet, behind, tree),
+        None => None,
+    }
+}
+
+fn taken_of(sheet: &Sheet, row: u16, tree: [u16; 4]) -> Option<(u16, Vec<u16>)> {
     match sheet.types[usize::from(row) - 1] {
-        [1, ..] => {}
-        [5 | 6, p, q] => {
-            atoms_in(sheet, p, atoms);
-            atoms_in(sheet, q, atoms);
+        [1, ..] => None,
+        [5, p, q] => taken(sheet, &[p, q], tree),
+        [6, p, q] => taken_of(sheet, p, tree).or_else(|| taken_of(sheet, q, tree)),
+        [7, p, _] => taken_of(sheet, p, tree).map(|(atom, rest)| (atom, [rest, vec![row]].concat())),
+        _ => {
+            let atom = atom(sheet, row);
+            one_head(sheet, atom, tree).then_some((atom, vec![]))
         }
-        [7, p, _] => atoms_in(sheet, p, atoms),
-        [8, name, _] => atoms.push(sheet.names[usize::from(name) - 1]),
-        _ => atoms.push(row),
+    }
+}
+
+fn may_be_empty(sheet: &Sheet, row: u16) -> bool {
+    match sheet.types[usize::from(row) - 1] {
+        [1 | 7, ..] => true,
+        [5, p, q] => may_be_empty(sheet, p) && may_be_empty(sheet, q),
+        [6, p, q] => may_be_empty(sheet, p) || may_be_empty(sheet, q),
+        _ => false,
+    }
+}
+
+/// A name as its label row.
+fn atom(sheet: &Sheet, row: u16) -> u16 {
+    match sheet.types[usize::from(row) - 1] {
+        [8, name, _] => sheet.names[usize::from(name) - 1],
+        _ => row,
     }
 }
 
@@ -96,39 +99,68 @@ fn one_head(sheet: &Sheet, atom: u16, tree: [u16; 4]) -> bool {
     }
 }
 
-/// Whether the trees from a row on are of a type, by the proved fit.
-fn fits(sheet: &Sheet, first: u16, type_row: u16) -> bool {
-    let (forest, root) = Forest::of_rows(&sheet.forest, first).to_rows();
-    let part = Sheet {
-        forest,
-        root,
-        ..sheet.clone()
-    };
-    calls::write(&tables::encode(&part))
-        .is_ok_and(|bundle| calls::fit(&bundle, type_row).number == 0)
+/// What may stand next, in words.
+fn wanted(sheet: &Sheet, names: &Names, left: &[u16]) -> String {
+    const MOST: usize = 4;
+    let mut heads = Vec::new();
+    let mut may_end = true;
+    for row in left {
+        add_heads(sheet, names, *row, &mut heads);
+        may_end = may_be_empty(sheet, *row);
+        if !may_end {
+            break;
+        }
+    }
+    let more = if heads.len() > MOST { " or another" } else { "" };
+    heads.truncate(MOST);
+    match (heads.is_empty(), may_end) {
+        (true, _) => "nothing more may stand".into(),
+        (_, true) => format!("{}{more} or nothing is wanted", heads.join(" or ")),
+        (_, false) => format!("{}{more} is wanted", heads.join(" or ")),
+    }
 }
 
-/// Where a tree was written: the last has row 1. With marks the rows may be numbered otherwise.
-pub fn place(work: &Work, tree: u16) -> Option<usize> {
-    let tokens = tokens(&work.whole.text);
-    let start = sections(&tokens).forest?;
-    let inside: Vec<_> = tokens
-        .iter()
-        .skip_while(|token| token.start <= start)
-        .collect();
-    if tree == 0 || inside.iter().any(|token| token.text == "@") {
-        return Some(start);
+fn add_heads(sheet: &Sheet, names: &Names, row: u16, heads: &mut Vec<String>) {
+    match sheet.types[usize::from(row) - 1] {
+        [1, ..] => {}
+        [5, p, q] => {
+            add_heads(sheet, names, p, heads);
+            if may_be_empty(sheet, p) {
+                add_heads(sheet, names, q, heads);
+            }
+        }
+        [6, p, q] => {
+            add_heads(sheet, names, p, heads);
+            add_heads(sheet, names, q, heads);
+        }
+        [7, p, _] => add_heads(sheet, names, p, heads),
+        _ => heads.push(head(sheet, names, row)),
     }
-    let begins = |at: &usize| {
-        let text = inside[*at].text;
-        let opened = inside.get(at + 1).is_some_and(|next| next.text == "[");
-        text.starts_with('"')
-            || ["true", "false"].contains(&text)
-            || inside[*at].is_word() && opened
-    };
-    let written = work.sheet.forest.len().checked_sub(usize::from(tree))?;
-    (0..inside.len())
-        .filter(begins)
-        .nth(written)
-        .map(|at| inside[at].start)
+}
+
+/// The head of an atom, in words.
+pub fn head(sheet: &Sheet, names: &Names, row: u16) -> String {
+    match sheet.types[usize::from(atom(sheet, row)) - 1] {
+        [2, ..] => "a text".into(),
+        [3, ..] => "a bool".into(),
+        [_, label, _] => format!("`{}`", names.label(label)),
+    }
+}
+
+/// Whether the trees from a row on are of a type, by the proved fit.
+fn fits(sheet: &Sheet, first: u16, type_row: u16) -> bool {
+    let mut part = Sheet { forest: Vec::new(), root: 0, ..sheet.clone() };
+    part.root = copy_trees(sheet, first, &mut part.forest);
+    calls::write(&bundles::encode(&part)).is_ok_and(|bundle| calls::fit(&bundle, type_row).number == 0)
+}
+
+/// Copies the trees from a row on, those that follow first, and gives the first tree's new row.
+fn copy_trees(sheet: &Sheet, first: u16, rows: &mut Vec<[u16; 4]>) -> u16 {
+    let mut next = 0;
+    for (_, [kind, p, q, _]) in trees(sheet, first).into_iter().rev() {
+        let child = if kind == 4 { copy_trees(sheet, q, rows) } else { q };
+        rows.push([kind, p, child, next]);
+        next = rows.len() as u16;
+    }
+    next
 }

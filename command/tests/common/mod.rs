@@ -17,25 +17,28 @@ impl Said {
     pub fn text(&self) -> &str {
         std::str::from_utf8(&self.out).expect("text on standard output")
     }
+
+    /// The number of the refusal that is told, if a call refused.
+    pub fn refusal(&self) -> Option<u16> {
+        let code = self.err.strip_prefix("error[")?;
+        code.split(' ').next()?.parse().ok()
+    }
 }
 
 pub fn root() -> PathBuf {
-    Path::new(env!("CARGO_MANIFEST_DIR"))
-        .join("..")
-        .canonicalize()
-        .expect("the repository")
+    Path::new(env!("CARGO_MANIFEST_DIR")).join("..").canonicalize().expect("the repository")
 }
 
 /// Starts the command in the repository's root.
 pub fn chukelowa(words: &[&str], input: &[u8]) -> Said {
-    let mut child = Command::new(env!("CARGO_BIN_EXE_chukelowa"))
-        .args(words)
-        .current_dir(root())
-        .stdin(Stdio::piped())
-        .stdout(Stdio::piped())
-        .stderr(Stdio::piped())
-        .spawn()
-        .expect("the command starts");
+    chukelowa_in(&root(), words, input, Stdio::piped())
+}
+
+pub fn chukelowa_in(folder: &Path, words: &[&str], input: &[u8], out: Stdio) -> Said {
+    let mut command = Command::new(env!("CARGO_BIN_EXE_chukelowa"));
+    let command = command.args(words).current_dir(folder);
+    let mut child =
+        command.stdin(Stdio::piped()).stdout(out).stderr(Stdio::piped()).spawn().expect("the command starts");
     // It may end before it has read all of it.
     let _ = child.stdin.take().expect("a pipe").write_all(input);
     let output = child.wait_with_output().expect("the command ends");

@@ -1,0 +1,4 @@
+labels a
+type X = a[X]
+from X to X
+script skip

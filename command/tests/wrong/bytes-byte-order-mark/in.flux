@@ -1,0 +1,2 @@
+﻿from () to X
+script skip

@@ -1,0 +1,3 @@
+labels a
+from a[] to b[]
+script skip

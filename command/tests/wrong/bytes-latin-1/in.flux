@@ -1,0 +1,3 @@
+# Größe
+from () to ()
+script skip

@@ -1,0 +1,3 @@
+from ()
+to ÿ
+script skip

@@ -1,0 +1,3 @@
+from () to ()
+procedure again() from () to () = again()
+script again()

@@ -1,0 +1,4 @@
+labels a
+type X = a[]
+type Y = a[]
+forest a[]

@@ -1,0 +1,3 @@
+labels a
+from a[]* to a[]*
+script children [skip]

@@ -1,0 +1,2 @@
+from () to text
+script insert if ("a", "b") then "c" else "d"

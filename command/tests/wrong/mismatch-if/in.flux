@@ -1,0 +1,2 @@
+from () to ()
+script if "yes" then skip else skip

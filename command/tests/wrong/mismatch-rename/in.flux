@@ -1,0 +1,3 @@
+labels a, b
+from a[] | b[] to a[]
+script rename a

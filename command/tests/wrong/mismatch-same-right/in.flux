@@ -1,0 +1,2 @@
+from () to bool
+script insert ("a" = ("b", "c"))

@@ -1,0 +1,4 @@
+labels a, b
+from (a[] | b[])* to ()
+script
+  a? delete

@@ -1,0 +1,3 @@
+from () to ()
+procedure p(x: text) from () to () = skip
+script p("a", "b")

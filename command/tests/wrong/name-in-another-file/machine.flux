@@ -1,0 +1,3 @@
+labels machine, name
+forest
+  machine[name["tiny"]]

@@ -1,0 +1,3 @@
+labels machine, name
+from machine[name[text]]
+to machine[name[text]]

@@ -1,0 +1,3 @@
+labels a = 1024
+from () to ()
+script skip

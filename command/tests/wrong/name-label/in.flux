@@ -1,0 +1,3 @@
+labels a
+from a[], b[] to ()
+script delete

@@ -1,0 +1,2 @@
+from text to text
+script snapshot x in (delete; insert children(x))

@@ -1,0 +1,3 @@
+type X = text
+from () to ()
+script skip

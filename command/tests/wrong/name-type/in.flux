@@ -1,0 +1,2 @@
+from X to X
+script skip

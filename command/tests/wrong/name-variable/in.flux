@@ -1,0 +1,2 @@
+from () to text
+script let x = "a" in insert y

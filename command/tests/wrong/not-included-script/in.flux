@@ -1,0 +1,4 @@
+labels a, b, c
+from a[b[]*]
+to a[c[]*]
+script skip

@@ -1,0 +1,3 @@
+labels a
+script skip
+forest a[]

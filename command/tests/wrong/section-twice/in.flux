@@ -1,0 +1,3 @@
+from () to ()
+script skip
+script skip

@@ -1,0 +1,2 @@
+form () to ()
+script skip

@@ -1,0 +1,3 @@
+labels a, script
+from a[] to a[]
+script skip

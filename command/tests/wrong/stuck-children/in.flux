@@ -1,0 +1,3 @@
+labels a
+script iter [children [skip]]
+forest a[], "x"

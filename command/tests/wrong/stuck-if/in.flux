@@ -1,0 +1,2 @@
+script snapshot x in if x then skip else skip
+forest "x"

@@ -1,0 +1,3 @@
+labels a
+script insert a[]
+forest a[]

@@ -1,0 +1,3 @@
+labels a
+script rename a
+forest a[], a[]

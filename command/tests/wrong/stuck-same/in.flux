@@ -1,0 +1,1 @@
+script insert (() = "x")

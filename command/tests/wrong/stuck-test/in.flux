@@ -1,0 +1,3 @@
+labels a
+script a? skip
+forest ()

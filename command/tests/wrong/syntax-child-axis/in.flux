@@ -1,0 +1,3 @@
+labels a
+from () to ()
+script let x = a[] in insert x/child

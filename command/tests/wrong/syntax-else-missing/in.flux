@@ -1,0 +1,2 @@
+from () to ()
+script if true then skip

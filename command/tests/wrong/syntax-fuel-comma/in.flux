@@ -1,0 +1,3 @@
+fuel check 1 run 1
+from () to ()
+script skip

@@ -1,0 +1,3 @@
+labels a, b, c
+from () to a[], b[]
+script insert if true then a[], b[] else b[], c[]

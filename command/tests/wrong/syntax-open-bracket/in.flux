@@ -1,0 +1,3 @@
+labels a
+from a[text to a[text]
+script skip

@@ -1,0 +1,2 @@
+from () to text
+script insert "a

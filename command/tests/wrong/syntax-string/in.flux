@@ -1,0 +1,3 @@
+labels a
+from a[string] to a[string]
+script skip

@@ -1,0 +1,3 @@
+from () to text*
+script skip
+forest "a",

@@ -1,0 +1,3 @@
+from text, text | text
+to ()
+script delete

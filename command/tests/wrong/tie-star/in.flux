@@ -1,0 +1,4 @@
+labels a
+from a[]*, a[]
+to ()
+script delete

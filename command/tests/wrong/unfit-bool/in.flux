@@ -1,0 +1,2 @@
+from bool to bool
+forest "true"

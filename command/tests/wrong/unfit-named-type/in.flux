@@ -1,0 +1,3 @@
+labels a
+type X = a[X*]
+forest a[a[], "x"]

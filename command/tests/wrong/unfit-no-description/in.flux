@@ -1,0 +1,2 @@
+from text to text
+script skip
