@@ -1,4 +1,5 @@
-// Sets of places as the bits of u64 words. A table of 513 sets lies in one array: set `k` is the nine words from word 9 k on, room for places 0 (End) to 575.
+// Sets of places as the bits of u64 words. A table of 513 sets lies in one array: set `k` is the nine words from word 9 k on, room for
+// places 0 (End) to 575.
 ghost use mathlib.Core.Path.{_≡_};
 ghost use mathlib.Core.Bool.{true};
 ghost use Prim.Native.Nat.{_+_, _*_, _/_, _%_, _^_, _<_, _≤_};
@@ -9,6 +10,25 @@ ghost use lib.Count.{trailingZeros, ones};
 ghost use Rattle.bits.specs.Sets.{inSet, inBoth, Added, Removed, United, LowestBoth};
 ghost use Rattle.bits.specs.Counts.{countTo};
 
+// The words of a table of sets, and the table; the rows of a flag each, 0 and the 512 of types, and the flags; the places that a set
+// has room for.
+pub const WORDS: usize = 4617;
+
+pub type Sets = [u64; WORDS];
+
+pub const ROWS: usize = 513;
+
+pub type Flags = [u8; ROWS];
+
+pub const PLACES: usize = 576;
+
+// A number kept in 16 bits.
+pub fn wide(x: u16) -> usize
+    ensures { λ r. ⌜ r ≡ x ⌝ }
+{
+    x as usize
+}
+
 // 2 to the power of `k`.
 pub fn power(k: usize) -> u64
     requires { ⌜ k < 64 ⌝ }
@@ -18,7 +38,7 @@ pub fn power(k: usize) -> u64
 }
 
 // Whether place `i` is in set `k`.
-pub fn has(t: &[u64; 4617], k: usize, i: usize) -> bool
+pub fn has(t: &Sets, k: usize, i: usize) -> bool
     requires { ⌜ (k ≤ 512) × (i < 576) ⌝ }
     ensures { λ r. ⌜ r ≡ inSet (now (t .entry)) k i ⌝ }
 {
@@ -26,7 +46,7 @@ pub fn has(t: &[u64; 4617], k: usize, i: usize) -> bool
 }
 
 // Adds place `i` to set `k`.
-pub fn add(t: &mut [u64; 4617], k: usize, i: usize)
+pub fn add(t: &mut Sets, k: usize, i: usize)
     requires { ⌜ length (now t) ≡ 4617 ⌝ }
     requires { ⌜ (k ≤ 512) × (i < 576) ⌝ }
     ensures { λ _. ⌜ Added (now (t .entry)) (now (t .exit)) k i ⌝ }
@@ -36,7 +56,7 @@ pub fn add(t: &mut [u64; 4617], k: usize, i: usize)
 }
 
 // Takes place `i` out of set `k`.
-pub fn remove(t: &mut [u64; 4617], k: usize, i: usize)
+pub fn remove(t: &mut Sets, k: usize, i: usize)
     requires { ⌜ length (now t) ≡ 4617 ⌝ }
     requires { ⌜ (k ≤ 512) × (i < 576) ⌝ }
     requires { ⌜ inSet (now t) k i ≡ true ⌝ }
@@ -47,7 +67,7 @@ pub fn remove(t: &mut [u64; 4617], k: usize, i: usize)
 }
 
 // Adds the members of set `j` of `u` to set `k`.
-pub fn unite(t: &mut [u64; 4617], k: usize, u: &[u64; 4617], j: usize)
+pub fn unite(t: &mut Sets, k: usize, u: &Sets, j: usize)
     requires { ⌜ length (now t) ≡ 4617 ⌝ }
     requires { ⌜ (k ≤ 512) × (j ≤ 512) ⌝ }
     ensures { λ _. ⌜ United (now (t .entry)) (now (t .exit)) k (now (u .entry)) j ⌝ }
@@ -60,7 +80,7 @@ pub fn unite(t: &mut [u64; 4617], k: usize, u: &[u64; 4617], j: usize)
 }
 
 // The same within one table.
-pub fn unite_in(t: &mut [u64; 4617], k: usize, j: usize)
+pub fn unite_in(t: &mut Sets, k: usize, j: usize)
     requires { ⌜ length (now t) ≡ 4617 ⌝ }
     requires { ⌜ (k ≤ 512) × (j ≤ 512) ⌝ }
     ensures { λ _. ⌜ United (now (t .entry)) (now (t .exit)) k (now (t .entry)) j ⌝ }
@@ -87,7 +107,7 @@ fn ones_of(x: u64) -> usize
 }
 
 // What word `w` of set `k` of `t` and of set `j` of `u` have in common.
-fn both(t: &[u64; 4617], k: usize, u: &[u64; 4617], j: usize, w: usize) -> u64
+fn both(t: &Sets, k: usize, u: &Sets, j: usize, w: usize) -> u64
     requires { ⌜ (k ≤ 512) × (j ≤ 512) × (w < 9) ⌝ }
     ensures { λ r. ⌜ r ≡ bitAnd (getD (now (t .entry)) (9 * k + w) 0) (getD (now (u .entry)) (9 * j + w) 0) ⌝ }
 {
@@ -95,7 +115,7 @@ fn both(t: &[u64; 4617], k: usize, u: &[u64; 4617], j: usize, w: usize) -> u64
 }
 
 // The lowest place of word `first` or a later one that is in both sets; 576 where there is none.
-fn lowest_word(t: &[u64; 4617], k: usize, u: &[u64; 4617], j: usize, first: usize) -> usize
+fn lowest_word(t: &Sets, k: usize, u: &Sets, j: usize, first: usize) -> usize
     requires { ⌜ (k ≤ 512) × (j ≤ 512) × (first ≤ 9) ⌝ }
     ensures { λ r. ⌜ LowestBoth (now (t .entry)) k (now (u .entry)) j (64 * first) r ⌝ }
 {
@@ -107,17 +127,17 @@ fn lowest_word(t: &[u64; 4617], k: usize, u: &[u64; 4617], j: usize, first: usiz
         }
         w += 1;
     }
-    576
+    PLACES
 }
 
 // The lowest place from `from` on that is in set `k` of `t` and in set `j` of `u`; 576 where there is none.
-pub fn lowest_both(t: &[u64; 4617], k: usize, u: &[u64; 4617], j: usize, from: usize) -> usize
+pub fn lowest_both(t: &Sets, k: usize, u: &Sets, j: usize, from: usize) -> usize
     requires { ⌜ (k ≤ 512) × (j ≤ 512) ⌝ }
     ensures { λ r. ⌜ LowestBoth (now (t .entry)) k (now (u .entry)) j from r ⌝ }
 {
     let w = from / 64;
     if 9 <= w {
-        return 576;
+        return PLACES;
     }
     let x = both(t, k, u, j, w) >> (from % 64);
     if x != 0 {
@@ -127,7 +147,7 @@ pub fn lowest_both(t: &[u64; 4617], k: usize, u: &[u64; 4617], j: usize, from: u
 }
 
 // Whether two places or more are in both.
-pub fn several_both(t: &[u64; 4617], k: usize, u: &[u64; 4617], j: usize) -> bool
+pub fn several_both(t: &Sets, k: usize, u: &Sets, j: usize) -> bool
     requires { ⌜ (k ≤ 512) × (j ≤ 512) ⌝ }
     ensures { λ r. ⌜ r ≡ leb 2 (countTo (inBoth (now (t .entry)) k (now (u .entry)) j) 576) ⌝ }
 {

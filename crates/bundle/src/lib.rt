@@ -42,16 +42,16 @@ fn open(b: &[u8], out: &mut [u8; 44704]) -> Opened
     if 88 < m {
         return Opened::Refused;
     }
-    if !blocks::blocks_ok(b, m) {
+    if !bundle_blocks::blocks_ok(b, m) {
         return Opened::Refused;
     }
-    blocks::unpack(b, m, out);
+    bundle_blocks::unpack(b, m, out);
     let size = 508 * m;
     let need = need_in(out, size);
     if m != (need + 507) / 508 {
         return Opened::Refused;
     }
-    if !blocks::all_zero(out, need, size) {
+    if !bundle_blocks::all_zero(out, need, size) {
         return Opened::Refused;
     }
     Opened::Sheet(need)
@@ -89,6 +89,6 @@ pub fn write(s: &[u8], out: &mut [u8]) -> Copied
     if out.len() < 512 * m {
         return Copied::Room;
     }
-    blocks::write_blocks(s, need, m, out);
+    bundle_blocks::write_blocks(s, need, m, out);
     Copied::Done
 }

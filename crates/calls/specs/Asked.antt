@@ -11,7 +11,27 @@ use Rattle.meaning.specs.Sheet.{scriptOf, need}
 use Rattle.meaning.specs.Shape.{shapely}
 use Rattle.meaning.specs.Bundle.{sheetIn}
 use Rattle.meaning.specs.Laws.Bools.{either}
-use Rattle.meaning.specs.Reply.{Answer, refused, shape, answer-code, misshapen, Checked, Fitted, no-row, Ran, unchecked, Reply, OfBundle, unframed, opened, CheckReply, FitReply, RunReply, ApplyReply, read}
+use Rattle.meaning.specs.Reply.{
+  Answer,
+  refused,
+  shape,
+  answer-code,
+  misshapen,
+  Checked,
+  Fitted,
+  no-row,
+  Ran,
+  unchecked,
+  Reply,
+  OfBundle,
+  unframed,
+  opened,
+  CheckReply,
+  FitReply,
+  RunReply,
+  ApplyReply,
+  read,
+}
 use Rattle.bundle.specs.declared.Copied.{Copied}
 use Rattle.bundle.specs.declared.Copied.the-variants.{Done, Block, Shape, Room}
 use Rattle.bundle.specs.Calls.{copiedOf, replied}
@@ -102,16 +122,19 @@ module _ {b after : List ℕ} (held : Held b after) {n : ℕ} (asks : n ≡ need
   is-read : take n after ≡ sheetIn b
   is-read = ap (λ (k : ℕ). take k after) asks ∙ held .is-sheet
 
-  pub check-asked : (work : List ℕ) (c : CheckAnswer) {p : Plain} {w : List ℕ} → CheckReply (take n after) work (checkedReply c w) → p ≡ plain (answer-code (checkedAnswer c)) (checkedUnits c) 0 0 → Gives (Check b work) p [] w
+  pub check-asked : (work : List ℕ) (c : CheckAnswer) {p : Plain} {w : List ℕ} → CheckReply (take n after) work (checkedReply c w) → p ≡ plain (answer-code (checkedAnswer c)) (checkedUnits c) 0 0
+      → Gives (Check b work) p [] w
   check-asked work c {w = w} a says = record { reply = checkedReply c w; asked = opened (held .is-framed) (rw is-read at a); says = says; result-is = refl; work-is = refl }
 
   pub fit-asked : (t : ℕ) (c : FitAnswer) {p : Plain} → Fitted (take n after) t (fitOf c) → p ≡ plain (answer-code (fitOf c)) 0 0 0 → Gives (Fit b t) p [] []
   fit-asked t c a says = record { reply = at-once (fitOf c) [] []; asked = opened (held .is-framed) (fit-said (rw is-read at a)); says = says; result-is = refl; work-is = refl }
 
-  pub run-asked : (work result : List ℕ) (c : RunAnswer) {p : Plain} {o w : List ℕ} → RunReply (take n after) work result (ranReply c o w) → p ≡ plain (answer-code (ranAnswer c)) 0 (ranUnits c) (ranRoot c)
+  pub run-asked : (work result : List ℕ) (c : RunAnswer) {p : Plain} {o w : List ℕ} → RunReply (take n after) work result (ranReply c o w)
+      → p ≡ plain (answer-code (ranAnswer c)) 0 (ranUnits c) (ranRoot c)
       → Gives (Run b work result) p o w
   run-asked work result c {o = o} {w = w} a says = record { reply = ranReply c o w; asked = opened (held .is-framed) (rw is-read at a); says = says; result-is = refl; work-is = refl }
 
-  pub apply-asked : (work result : List ℕ) (c : ApplyAnswer) {p : Plain} {o w : List ℕ} → ApplyReply (take n after) work result (appliedReply c o w) → p ≡ plain (answer-code (appliedAnswer c)) (firstUnits c) (lastUnits c) (appliedRoot c)
+  pub apply-asked : (work result : List ℕ) (c : ApplyAnswer) {p : Plain} {o w : List ℕ} → ApplyReply (take n after) work result (appliedReply c o w)
+      → p ≡ plain (answer-code (appliedAnswer c)) (firstUnits c) (lastUnits c) (appliedRoot c)
       → Gives (Apply b work result) p o w
   apply-asked work result c {o = o} {w = w} a says = record { reply = appliedReply c o w; asked = opened (held .is-framed) (rw is-read at a); says = says; result-is = refl; work-is = refl }

@@ -1,4 +1,5 @@
-// The calls for C: over a bundle and lent bytes, answered in plain numbers. Block before all else; then the question, on the sheet that the reader gives.
+// The calls for C: over a bundle and lent bytes, answered in plain numbers. Block before all else; then the question, on the sheet that
+// the reader gives.
 use bundle::Copied;
 use coded::Coded;
 use desk::Applied;
@@ -137,7 +138,8 @@ pub extern "C" fn chukelowa_fit(bundle: &[u8], told: usize) -> Reply
 // The edited forest, in the result rows: 0 to 6 or 11 to 13.
 #[no_mangle]
 pub extern "C" fn chukelowa_run(bundle: &[u8], work: &mut [u8], result: &mut [u8]) -> Reply
-    ensures { λ r. ⌜ Gives (Run (now (bundle .entry)) (now (work .entry)) (now (result .entry))) r (now (result .exit)) (now (work .exit)) ⌝ }
+    ensures { λ r. ⌜ Gives (Run (now (bundle .entry)) (now (work .entry)) (now (result .entry))) r (now (result .exit))
+        (now (work .exit)) ⌝ }
 {
     let mut tables = [0u8; 44704];
     let answer = bundle::read(bundle, &mut tables);
@@ -151,7 +153,8 @@ pub extern "C" fn chukelowa_run(bundle: &[u8], work: &mut [u8], result: &mut [u8
 // The same of a script that the check passes, on a forest of A: 0 to 10, 12 or 13, with the units of both walks.
 #[no_mangle]
 pub extern "C" fn chukelowa_apply(bundle: &[u8], work: &mut [u8], result: &mut [u8]) -> Reply
-    ensures { λ r. ⌜ Gives (Apply (now (bundle .entry)) (now (work .entry)) (now (result .entry))) r (now (result .exit)) (now (work .exit)) ⌝ }
+    ensures { λ r. ⌜ Gives (Apply (now (bundle .entry)) (now (work .entry)) (now (result .entry))) r (now (result .exit))
+        (now (work .exit)) ⌝ }
 {
     let mut tables = [0u8; 44704];
     let answer = bundle::read(bundle, &mut tables);

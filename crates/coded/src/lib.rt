@@ -1,4 +1,5 @@
-// The numbers: the one place where an answer becomes the number of its refusal, with the two values that it carries. What prints, and the calls for C, go through it.
+// The numbers: the one place where an answer becomes the number of its refusal, with the two values that it carries. What prints, and
+// the calls for C, go through it.
 use bundle::Copied;
 use desk::Applied;
 use desk::Checked;

@@ -17,8 +17,8 @@ use lib.Dec.{eqb}
 use borrow.Author.Tests.{eq-eqb}
 use Rattle.sheet.specs.Laid.{Laid}
 use Rattle.sheet.specs.declared.Layout.{Layout}
-use Rattle.places.specs.Tables.{setOf, modelOf}
-use Rattle.tables.specs.Lent.{Lent}
+use Rattle.type_places.specs.Tables.{setOf, modelOf}
+use Rattle.type_tables.specs.Lent.{Lent}
 use Rattle.fit.specs.Fitting.{IsOf}
 use Rattle.desk.specs.Said.{ranAnswer, ranUnits, ranRoot, Says}
 use Rattle.desk.specs.Checking.{checkedAnswer, checkedUnits, Concludes}
@@ -58,12 +58,14 @@ pub record Applies (s work result : List ℕ) (a : Applied) (after : List ℕ) :
   pub said : meaning.Applied s work result (appliedAnswer a) (firstUnits a) (lastUnits a) (appliedRoot a) after
 
 -- and the working rows zeroed
-pub apply-replied : (s work result mid : List ℕ) {a : Applied} {after cleared : List ℕ} → Applies s work result a after → cleared ≡ zeroed mid → length mid ≡ length work → ApplyReply s work result (appliedReply a after cleared)
+pub apply-replied : (s work result mid : List ℕ) {a : Applied} {after cleared : List ℕ} → Applies s work result a after → cleared ≡ zeroed mid → length mid ≡ length work
+    → ApplyReply s work result (appliedReply a after cleared)
 apply-replied s work result mid h z n = record { said = h .said; clear = z ∙ ap (λ (k : ℕ). replicate k 0) n }
 
 -- ---- where the sheet is refused, or the check is
 
-pub applies-unsound : {s work result : List ℕ} {c : checking.Checked} {r : Refusal} → checkedAnswer c ≡ refused r → checkedUnits c ≡ 0 → Loads s (refused r) → Applies s work result (Unchecked c) result
+pub applies-unsound : {s work result : List ℕ} {c : checking.Checked} {r : Refusal} → checkedAnswer c ≡ refused r → checkedUnits c ≡ 0 → Loads s (refused r)
+    → Applies s work result (Unchecked c) result
 applies-unsound {s} {work} {result} e u l = record { said = rw (e, u) (meaning.Applied.unchecked (meaning.Checked.unsound l)) }
 
 -- an answer of the check's that is not done
@@ -113,7 +115,8 @@ lent-as e (meaning.Ran.ended l h v u) = meaning.Ran.ended l (rw e at h) v u
 lent-as e (meaning.Ran.no-room l h v u r) = meaning.Ran.no-room l (rw e at h) v u r
 lent-as e (meaning.Ran.gave l h v u n x a) = meaning.Ran.gave l (rw e at h) v u n x a
 
-module _ {s work : List ℕ} {units : ℕ} {c : checking.Checked} (is : c ≡ checked.Done units) (h : Concludes s work c) (e : shapely s ≡ true) (load : Loads s done) {b : Bool} (of : IsOf s (scriptOf s .a) b) where
+module _ {s work : List ℕ} {units : ℕ} {c : checking.Checked} (is : c ≡ checked.Done units) (h : Concludes s work c) (e : shapely s ≡ true) (load : Loads s done) {b : Bool}
+    (of : IsOf s (scriptOf s .a) b) where
   passed : meaning.Checked s work done units
   passed = subst (λ (x : checking.Checked). meaning.Checked s work (checkedAnswer x) (checkedUnits x)) is (h .said)
 

@@ -19,9 +19,9 @@ use Rattle.meaning.specs.Laws.Shaped.{few, limits-pass}
 use Rattle.sheet.specs.Laid.{Laid}
 use Rattle.sheet.specs.declared.Layout.{Layout}
 use Rattle.walk.specs.declared.Purse.{Purse}
-use Rattle.grown.specs.Finds.{Judges, Typed, Halted}
-use Rattle.grown.specs.declared.Halt.{Halt}
-use Rattle.grown.specs.declared.Halt.the-variants as halt
+use Rattle.type_rows.specs.Finds.{Judges, Typed, Halted}
+use Rattle.type_rows.specs.declared.Halt.{Halt}
+use Rattle.type_rows.specs.declared.Halt.the-variants as halt
 use Rattle.desk.specs.declared.Checked.{Checked}
 use Rattle.desk.specs.declared.Checked.the-variants.{Done, Shape, Barren, Tie, Fuel, Depth, Wide, Mismatch, Outside, Scratch}
 

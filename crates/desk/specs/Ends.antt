@@ -26,12 +26,12 @@ use Rattle.walk.specs.declared.Stop.{Stop}
 use Rattle.walk.specs.declared.Stop.the-variants.{Fuel, Depth, Stuck}
 use Rattle.walk.specs.declared.Answer as walk
 use Rattle.walk.specs.declared.Answer.the-variants.{Done, Not}
-use Rattle.rows.specs.Rows.{Readable}
+use Rattle.forest_rows.specs.Rows.{Readable}
 use Rattle.walk.specs.Fits.{held}
 use Rattle.sheet.specs.Whole.{whole-shaped}
-use Rattle.edit.specs.Edit.{Edits, fits, went}
-use Rattle.room.specs.Hands.{HandsBy}
-use Rattle.room.specs.declared.Handed.the-variants as room
+use Rattle.run_statement.specs.Edit.{Edits, fits, went}
+use Rattle.run_result.specs.Hands.{HandsBy}
+use Rattle.run_result.specs.declared.handed.Handed.the-variants as room
 use Rattle.desk.specs.Said.{Says}
 use Rattle.meaning.specs.Laws.Shaped.{few-rows, few-units}
 use Rattle.meaning.specs.Laws.Trees.{root-row, grove-low}
@@ -152,7 +152,8 @@ module _ {s lent : List ℕ} (b : Begun s lent) where
       let v = settles-settle (run-walk (sheetOf s)) (sheetOf s .runFuel) 0 fuel (h .by) in
       record { said = ended {units = units} (b .loads) (b .rows) (ap verdict-answer (v .0)) (omega (arith, v .1)) }
 
-  pub stop-depth : (result : List ℕ) {p : Purse} {units n : ℕ} → n ≡ sheetOf s .runFuel → Stopped (run-walk (sheetOf s)) (sheetOf s .runFuel) (Depth p) → units + p .left ≡ n → Says s lent result (ran.Depth units) result
+  pub stop-depth : (result : List ℕ) {p : Purse} {units n : ℕ} → n ≡ sheetOf s .runFuel → Stopped (run-walk (sheetOf s)) (sheetOf s .runFuel) (Depth p) → units + p .left ≡ n
+      → Says s lent result (ran.Depth units) result
   stop-depth result {p} {units} en h eu =
       let v = settles-settle (run-walk (sheetOf s)) (sheetOf s .runFuel) (p .left) (stops meaning.depth) (h .by) in
       record { said = ended {units = units} (b .loads) (b .rows) (ap verdict-answer (v .0)) (omega (arith, v .1)) }
@@ -178,9 +179,15 @@ gave-of {s} {lent} {new} {root} {left} b m en eu =
 
 module _ {s lent new : List ℕ} {root units : ℕ} (g : Gave s lent new root units) {result after : List ℕ} where
   pub said-room : HandsBy new root result after room.Room → Says s lent result (ran.Room units) after
-  said-room h = rw (h .0) (record { said = no-room {f = forestAt (groveOf s .byte) (lentRow new) root} {units = units} (g .begun .loads) (g .begun .rows) (g .verdict) (g .charge) (h .1 (groveOf s .byte)) })
+  said-room h = rw (h .0) (record {
+    said = no-room {f = forestAt (groveOf s .byte) (lentRow new) root} {units = units} (g .begun .loads) (g .begun .rows) (g .verdict) (g .charge)
+        (h .1 (groveOf s .byte));
+  })
 
   pub said-rows : {n : ℕ} → HandsBy new root result after (room.Rows n) → Says s lent result (ran.Done units n) after
   said-rows h =
       let size = h .1 (groveOf s .byte) .0 in
-      record { said = gave {f = forestAt (groveOf s .byte) (lentRow new) root} {units = units} (g .begun .loads) (g .begun .rows) (g .verdict) (g .charge) (omega (arith, h .0)) size (h .1 (groveOf s .byte) .1) }
+      record {
+        said = gave {f = forestAt (groveOf s .byte) (lentRow new) root} {units = units} (g .begun .loads) (g .begun .rows) (g .verdict) (g .charge) (omega (arith, h .0)) size
+            (h .1 (groveOf s .byte) .1);
+      }

@@ -32,7 +32,8 @@ module _ (s old new : List ℕ) (size from : ℕ) (fits : from + size ≤ length
       let high : 2 * (at + i) + 1 ≡ from + (2 * i + 1) = omega arith in
       sym (rw (byte-copied (2 * i) (omega arith), byte-copied (2 * i + 1) h, high, low))
 
-pub load-rows : (s old new : List ℕ) (from to : ℕ) → to ≤ length s → new ≡ take (length (take (to - from) (drop from s))) (take (to - from) (drop from s)) ++ drop (length (take (to - from) (drop from s))) old
+pub load-rows : (s old new : List ℕ) (from to : ℕ) → to ≤ length s →
+    new ≡ take (length (take (to - from) (drop from s))) (take (to - from) (drop from s)) ++ drop (length (take (to - from) (drop from s))) old
     → from ≡ 2 * rows-at s → to ≡ from + 8 * rows-of s → Loaded s new
 unfolding groveOf
 load-rows s old new from to fits copied ef et r p q =

@@ -51,7 +51,8 @@ pub record Says (s work result : List ℕ) (r : Ran) (after : List ℕ) : Type 0
   pub said : meaning.Ran s work result (ranAnswer r) (ranUnits r) (ranRoot r) after
 
 -- and the working rows zeroed
-pub replied : (s work result mid : List ℕ) {r answer : Ran} {after cleared : List ℕ} → Says s work result answer after → r ≡ answer → cleared ≡ zeroed mid → length mid ≡ length work → meaning.RunReply s work result (ranReply r after cleared)
+pub replied : (s work result mid : List ℕ) {r answer : Ran} {after cleared : List ℕ} → Says s work result answer after → r ≡ answer → cleared ≡ zeroed mid → length mid ≡ length work
+    → meaning.RunReply s work result (ranReply r after cleared)
 replied s work result mid h e z n = rw e (record { said = h .said; no-check = refl; clear = z ∙ ap (λ (k : ℕ). replicate k 0) n })
 
 -- a result's rows lie in the lent ones

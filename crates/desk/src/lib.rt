@@ -1,10 +1,17 @@
-// The questions check, run and apply, whole: the order of refusals, and the rows left behind. Working rows are zeroed in one place, after the answer is known.
-use grown::Found;
-use grown::Halt;
-use room::Handed;
+// The questions check, run and apply, whole: the order of refusals, and the rows left behind. Working rows are zeroed in one place,
+// after the answer is known.
+use bits::PLACES;
+use bits::Sets;
+use bits::WORDS;
+use run_result::handed::Handed;
 use sheet::Layout;
-use ties::Soundness;
-use ties::Tied;
+use type_heads::HEADS;
+use type_heads::Leads;
+use type_heads::kin::Kin;
+use type_rows::Found;
+use type_rows::Halt;
+use type_ties::Soundness;
+use type_ties::Tied;
 use walk::Answer;
 use walk::Purse;
 use walk::Scope;
@@ -20,11 +27,11 @@ ghost use Rattle.meaning.specs.Shape.{shapely};
 ghost use Rattle.meaning.specs.Run.{run-walk};
 ghost use Rattle.meaning.specs.Check.{check-walk};
 ghost use Rattle.meaning.specs.Reply.{Loads, done, RunReply, CheckReply, ApplyReply};
-ghost use Rattle.grown.specs.Finds.{Halted};
-ghost use Rattle.tables.specs.Lent.{Lent};
+ghost use Rattle.type_rows.specs.Finds.{Halted};
+ghost use Rattle.type_tables.specs.Lent.{Lent};
 ghost use Rattle.sheet.specs.Laid.{Laid};
 ghost use Rattle.walk.specs.Meets.{Stopped};
-ghost use Rattle.rows.specs.Rows.{Readable};
+ghost use Rattle.forest_rows.specs.Rows.{Readable};
 ghost use Rattle.desk.specs.Said.{ranReply, Says};
 ghost use Rattle.desk.specs.Load.{Loaded};
 ghost use Rattle.desk.specs.Ends.{MainEnds, leftOf, Begun, Gave};
@@ -68,13 +75,14 @@ fn walk_main(s: &[u8], l: Layout, work: &mut [u8]) -> Answer
 {
     load(s, l, work);
     let purse = Purse { left: l.run_fuel };
-    edit::statement(s, work, Scope::new(), l.rows, l.main, l.root, 200, purse)
+    run_statement::statement(s, work, Scope::new(), l.rows, l.main, l.root, 200, purse)
 }
 
 // How an end that is no forest is called.
 fn stopped(why: Stop, fuel: usize) -> Ran
     requires { ⌜ leftOf why ≤ fuel ⌝ }
-    ensures { λ r. ⌜ ((s lent result : List ℕ) → Begun s lent → fuel ≡ sheetOf s .runFuel → Stopped (run-walk (sheetOf s)) (sheetOf s .runFuel) why → Says s lent result r result) ⌝ }
+    ensures { λ r. ⌜ ((s lent result : List ℕ) → Begun s lent → fuel ≡ sheetOf s .runFuel
+        → Stopped (run-walk (sheetOf s)) (sheetOf s .runFuel) why → Says s lent result r result) ⌝ }
 {
     match why {
         Stop::Fuel => Ran::Fuel(fuel),
@@ -90,9 +98,10 @@ fn stopped(why: Stop, fuel: usize) -> Ran
 // The forest at `root`, handed out: Room where the result rows are too few.
 fn finish(work: &[u8], root: usize, units: usize, result: &mut [u8]) -> Ran
     requires { ⌜ Readable (now work) root ⌝ }
-    ensures { λ r. ⌜ ((s lent : List ℕ) → Gave s lent (now (work .entry)) root units → Says s lent (now (result .entry)) r (now (result .exit))) ⌝ }
+    ensures { λ r. ⌜ ((s lent : List ℕ) → Gave s lent (now (work .entry)) root units
+        → Says s lent (now (result .entry)) r (now (result .exit))) ⌝ }
 {
-    match room::hand_out(work, root, result) {
+    match run_result::handed::hand_out(work, root, result) {
         Handed::Room => Ran::Room(units),
         Handed::Rows(n) => Ran::Done { units, root: n },
     }
@@ -117,7 +126,7 @@ fn unwalked(s: &[u8], l: Layout) -> Ran
     requires { ⌜ (shapely (now s) ≡ true) × (Laid (now s) l) ⌝ }
     ensures { λ r. ⌜ ((lent result : List ℕ) → rowsLent lent < l .rows + l .«run_fuel» → Says (now (s .entry)) lent result r result) ⌝ }
 {
-    match ties::sound(s, l) {
+    match type_ties::sound(s, l) {
         Soundness::Barren(x) => Ran::Barren(x),
         Soundness::Tie(t) => Ran::Tie(t),
         Soundness::Done => Ran::Scratch,
@@ -132,10 +141,10 @@ fn judged(s: &[u8], work: &mut [u8], result: &mut [u8]) -> Ran
         return Ran::Shape;
     }
     let l = sheet::lay_out(s);
-    if room::rows_lent(work) < l.rows + l.run_fuel {
+    if run_result::handed::rows_lent(work) < l.rows + l.run_fuel {
         return unwalked(s, l);
     }
-    match ties::sound(s, l) {
+    match type_ties::sound(s, l) {
         Soundness::Barren(x) => Ran::Barren(x),
         Soundness::Tie(t) => Ran::Tie(t),
         Soundness::Done => walked(s, l, work, result),
@@ -151,14 +160,16 @@ fn clear(work: &mut [u8])
 
 // The edited forest, in the result rows.
 pub fn run(s: &[u8], work: &mut [u8], result: &mut [u8]) -> Ran
-    ensures { λ r. ⌜ RunReply (now (s .entry)) (now (work .entry)) (now (result .entry)) (ranReply r (now (result .exit)) (now (work .exit))) ⌝ }
+    ensures { λ r. ⌜ RunReply (now (s .entry)) (now (work .entry)) (now (result .entry))
+        (ranReply r (now (result .exit)) (now (work .exit))) ⌝ }
 {
     let answer = judged(s, work, result);
     clear(work);
     answer
 }
 
-// What a check says: its refusal or Done, with its units. A row is carried with 1 for a query, 2 for a statement, 0 for a declared output.
+// What a check says: its refusal or Done, with its units. A row is carried with 1 for a query, 2 for a statement, 0 for a declared
+// output.
 pub enum Checked {
     Done(usize),
     Shape,
@@ -187,7 +198,8 @@ pub enum Checked {
 // How an end that is no type is called.
 fn halted(why: Halt, fuel: usize) -> Checked
     requires { ⌜ leftIn why ≤ fuel ⌝ }
-    ensures { λ c. ⌜ ((s lent : List ℕ) → CheckBegun s lent → fuel ≡ sheetOf s .checkFuel → Halted (check-walk (scriptOf s)) s (sheetOf s .checkFuel) why → Concludes s lent c) ⌝ }
+    ensures { λ c. ⌜ ((s lent : List ℕ) → CheckBegun s lent → fuel ≡ sheetOf s .checkFuel
+        → Halted (check-walk (scriptOf s)) s (sheetOf s .checkFuel) why → Concludes s lent c) ⌝ }
 {
     match why {
         Halt::Fuel => Checked::Fuel(fuel),
@@ -215,21 +227,21 @@ fn typed(
     s: &[u8],
     l: Layout,
     work: &mut [u8],
-    first: &[u64; 4617],
-    behind: &[u64; 4617],
-    class: &[u16; 1026],
-    same: &[u64; 4617],
-    kin: &[u16; 576],
+    first: &Sets,
+    behind: &Sets,
+    class: &Leads,
+    same: &Sets,
+    kin: &Kin,
 ) -> Checked
     requires { ⌜ (shapely (now s) ≡ true) × (Laid (now s) l) × (Loads (now s) done) ⌝ }
     requires { ⌜ Lent (now s) (now first) (now behind) (now class) (now same) (now kin) ⌝ }
     ensures { λ c. ⌜ Concludes (now (s .entry)) (now (work .entry)) c ⌝ }
 {
     let fuel = l.check_fuel;
-    if room::rows_lent(work) < fuel {
+    if run_result::handed::rows_lent(work) < fuel {
         return Checked::Scratch;
     }
-    match typing::check(
+    match check_statement::check(
         s,
         work,
         first,
@@ -256,12 +268,12 @@ fn check_judged(s: &[u8], work: &mut [u8]) -> Checked
         return Checked::Shape;
     }
     let l = sheet::lay_out(s);
-    let mut first = [0u64; 4617];
-    let mut behind = [0u64; 4617];
-    let mut class = [0u16; 1026];
-    let mut same = [0u64; 4617];
-    let mut kin = [0u16; 576];
-    match tables::judge(
+    let mut first = [0u64; WORDS];
+    let mut behind = [0u64; WORDS];
+    let mut class = [0u16; HEADS];
+    let mut same = [0u64; WORDS];
+    let mut kin = [0u16; PLACES];
+    match type_tables::judge(
         s,
         l,
         &mut first,
@@ -298,11 +310,11 @@ fn in_turn(
     l: Layout,
     work: &mut [u8],
     result: &mut [u8],
-    first: &[u64; 4617],
-    behind: &[u64; 4617],
-    class: &[u16; 1026],
-    same: &[u64; 4617],
-    kin: &[u16; 576],
+    first: &Sets,
+    behind: &Sets,
+    class: &Leads,
+    same: &Sets,
+    kin: &Kin,
 ) -> Applied
     requires { ⌜ (shapely (now s) ≡ true) × (Laid (now s) l) × (Loads (now s) done) ⌝ }
     requires { ⌜ Lent (now s) (now first) (now behind) (now class) (now same) (now kin) ⌝ }
@@ -315,7 +327,7 @@ fn in_turn(
     if !fit::of_type(s, l, l.a, first, behind, behind, class, same) {
         return Applied::Unfit(units);
     }
-    if room::rows_lent(work) < l.rows + l.run_fuel {
+    if run_result::handed::rows_lent(work) < l.rows + l.run_fuel {
         return Applied::Ran(units, Ran::Scratch);
     }
     Applied::Ran(units, walked(s, l, work, result))
@@ -329,12 +341,12 @@ fn apply_judged(s: &[u8], work: &mut [u8], result: &mut [u8]) -> Applied
         return Applied::Unchecked(Checked::Shape);
     }
     let l = sheet::lay_out(s);
-    let mut first = [0u64; 4617];
-    let mut behind = [0u64; 4617];
-    let mut class = [0u16; 1026];
-    let mut same = [0u64; 4617];
-    let mut kin = [0u16; 576];
-    match tables::judge(
+    let mut first = [0u64; WORDS];
+    let mut behind = [0u64; WORDS];
+    let mut class = [0u16; HEADS];
+    let mut same = [0u64; WORDS];
+    let mut kin = [0u16; PLACES];
+    match type_tables::judge(
         s,
         l,
         &mut first,
@@ -351,7 +363,8 @@ fn apply_judged(s: &[u8], work: &mut [u8], result: &mut [u8]) -> Applied
 
 // The edited forest of a script that the check passes, on a forest of A.
 pub fn apply(s: &[u8], work: &mut [u8], result: &mut [u8]) -> Applied
-    ensures { λ a. ⌜ ApplyReply (now (s .entry)) (now (work .entry)) (now (result .entry)) (appliedReply a (now (result .exit)) (now (work .exit))) ⌝ }
+    ensures { λ a. ⌜ ApplyReply (now (s .entry)) (now (work .entry)) (now (result .entry))
+        (appliedReply a (now (result .exit)) (now (work .exit))) ⌝ }
 {
     let answer = apply_judged(s, work, result);
     clear(work);

@@ -8,7 +8,7 @@ use Rattle.meaning.specs.Sheet.{Cells}
 use Rattle.meaning.specs.Forest.{Tree, Forest, treeForm}
 use Rattle.meaning.specs.Types.{Head}
 use Rattle.meaning.specs.Places.{headOf, headAt, contentAt, start, Fits, Admits}
-use Rattle.heads.specs.Heads.{headNo, actingAt, headNumber, head-number, Acts, acts-text, acts-bool, acts-label}
+use Rattle.type_heads.specs.Heads.{headNo, actingAt, headNumber, head-number, Acts, acts-text, acts-bool, acts-label}
 use Rattle.fit.specs.Fitting.{treeNumber}
 use Rattle.meaning.specs.Laws.Trees.{Sort, a-text, a-bool, a-node}
 

@@ -14,11 +14,11 @@ use Rattle.meaning.specs.Places.{Model, modelForm, Word, w-seq, w-left, w-right
 use Rattle.meaning.specs.Laws.Bools.{or-left, or-right, and-both}
 use Rattle.meaning.specs.Laws.Tests.{table-high, some-at}
 use Rattle.meaning.specs.Laws.Models.{any-word, first-word, follows-word}
-use Rattle.places.specs.Tables.{modelOf}
-use Rattle.roots.specs.Roots.{isRoot}
-use Rattle.places.specs.Firsts.{model-row}
-use Rattle.places.specs.Sheets.{shaped-rows}
-use Rattle.ties.specs.Users.{user-of}
+use Rattle.type_places.specs.Tables.{modelOf}
+use Rattle.type_models.specs.Roots.{isRoot}
+use Rattle.type_places.specs.Firsts.{model-row}
+use Rattle.type_places.specs.Sheets.{shaped-rows}
+use Rattle.type_ties.specs.Users.{user-of}
 use Rattle.meaning.specs.Laws.Apart.{Side, side-lower, followed-has, model-placed, model-below, shaped-lower}
 use Rattle.meaning.specs.Theorems.Within.Rows.{one-place}
 

@@ -6,9 +6,9 @@ use mathlib.Core.List.{List}
 use Rattle.meaning.specs.Sheet.{scriptOf}
 use Rattle.meaning.specs.Shape.{shapely}
 use Rattle.meaning.specs.Laws.Wired.{has}
-use Rattle.ties.specs.Users.{has-place}
-use Rattle.places.specs.Tables.{modelOf}
-use Rattle.heads.specs.Heads.{actingAt, Acts, acts-as}
+use Rattle.type_ties.specs.Users.{has-place}
+use Rattle.type_places.specs.Tables.{modelOf}
+use Rattle.type_heads.specs.Heads.{actingAt, Acts, acts-as}
 
 pub acts : (s : List ℕ) (e : shapely s ≡ true) (k a : ℕ) → has (modelOf s k) a ≡ true → Acts (scriptOf s .types) (actingAt s a)
 acts s e k a h = acts-as s e a (has-place s e k a h)

@@ -21,8 +21,8 @@ use Rattle.meaning.specs.Laws.Apart.{first-has, follows-has, model-placed, mode
 use Rattle.meaning.specs.Laws.Points.{has-first, has-follows}
 use Rattle.meaning.specs.Laws.Shaped.{few-types}
 use Rattle.bits.specs.Sets.{inSet}
-use Rattle.places.specs.Tables.{modelOf}
-use Rattle.heads.specs.Heads.{actingAt, headNumber, Acts, acts-text, acts-bool, acts-label}
+use Rattle.type_places.specs.Tables.{modelOf}
+use Rattle.type_heads.specs.Heads.{actingAt, headNumber, Acts, acts-text, acts-bool, acts-label}
 use Rattle.fit.specs.Fitting.{treeNumber, Looked, point, treesAt, GoesOn, Inside, Ready, Walks, Walking}
 use Rattle.fit.proofs.Held.{single}
 use Rattle.meaning.specs.Laws.Trees.{Sort, a-text, a-bool, a-node, tree-row, low-rows}

@@ -14,8 +14,8 @@ use Rattle.meaning.specs.Laws.Shaped.{few-types}
 use Rattle.bits.specs.Sets.{inSet}
 use Rattle.sheet.specs.Laid.{cellsOf}
 use Rattle.sheet.specs.declared.Row.{Row}
-use Rattle.places.specs.Tables.{modelOf}
-use Rattle.heads.specs.Heads.{actingAt}
+use Rattle.type_places.specs.Tables.{modelOf}
+use Rattle.type_heads.specs.Heads.{actingAt}
 use Rattle.fit.specs.Fitting.{treeNumber, Looked, point, GoesOn, Inside, Ready, Walks, Walking}
 use Rattle.fit.proofs.Whole.{contents}
 use Rattle.fit.proofs.Step as step

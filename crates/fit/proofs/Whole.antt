@@ -18,16 +18,16 @@ use Rattle.meaning.specs.Laws.Bools.{or-right, and-both, either}
 use Rattle.meaning.specs.Laws.Tests.{in-table, table-low, table-high, some-at}
 use Rattle.meaning.specs.Laws.Wired.{Wired, wired-next, ends}
 use Rattle.meaning.specs.Theorems.Places.{places-say}
-use Rattle.barren.specs.Flags.{flag, flag-set}
+use Rattle.type_barren.specs.Flags.{flag, flag-set}
 use Rattle.meaning.specs.Laws.Shaped.{kind-in, label-row, few-types}
 use Rattle.sheet.specs.Laid.{Laid, outside-low, outside-high}
 use Rattle.sheet.specs.declared.Layout.{Layout}
-use Rattle.places.specs.Sheets.{laid-free, laid-wires}
-use Rattle.ties.specs.Users.{told-free}
-use Rattle.places.specs.Tables.{modelOf, setOf, Wires, Free}
-use Rattle.points.specs.Points.{SheetPoints}
-use Rattle.roots.specs.Roots.{isRoot, Rooted}
-use Rattle.heads.specs.Heads.{actingAt}
+use Rattle.type_places.specs.Sheets.{laid-free, laid-wires}
+use Rattle.type_ties.specs.Users.{told-free}
+use Rattle.type_places.specs.Tables.{modelOf, setOf, Wires, Free}
+use Rattle.type_tables.specs.Points.{SheetPoints}
+use Rattle.type_models.specs.Roots.{isRoot, Rooted}
+use Rattle.type_heads.specs.Heads.{actingAt}
 use Rattle.fit.specs.Fitting.{Nexts, Inside, Walks, Told, IsOf}
 use Rattle.meaning.specs.Laws.Trees.{root-row}
 

@@ -14,10 +14,10 @@ use Rattle.meaning.specs.Places.{Model, Set, start, next, Admits, Untied}
 use Rattle.meaning.specs.Reply.{Loads, done, sound}
 use Rattle.meaning.specs.Laws.Wired.{has}
 use Rattle.bits.specs.Sets.{inSet, inBoth}
-use Rattle.places.specs.Tables.{modelOf}
-use Rattle.points.specs.Points.{SheetPoints}
-use Rattle.tables.specs.Lent.{Lent}
-use Rattle.heads.specs.Classes.{Classes}
+use Rattle.type_places.specs.Tables.{modelOf}
+use Rattle.type_tables.specs.Points.{SheetPoints}
+use Rattle.type_tables.specs.Lent.{Lent}
+use Rattle.type_heads.specs.Classes.{Classes}
 use Rattle.sheet.specs.Laid.{Laid}
 use Rattle.sheet.specs.declared.Layout.{Layout}
 
@@ -83,5 +83,6 @@ module _ (s : List ℕ) where
   IsOf told b = b ≡ true ↔ Of (namesIn (scriptOf s)) (declared (scriptOf s) told) (forestOf (groveOf s))
 
 -- the tables are as they were lent when 2 to 4 were judged
-pub told-lent : {s : List ℕ} {l : Layout} {told : ℕ} {first behind class same kin : List ℕ} → Laid s l → inTable (scriptOf s .types) told ≡ true → Loads s done → Lent s first behind class same kin → Told s l told first behind class same
+pub told-lent : {s : List ℕ} {l : Layout} {told : ℕ} {first behind class same kin : List ℕ} → Laid s l → inTable (scriptOf s .types) told ≡ true → Loads s done → Lent s first behind class same kin
+    → Told s l told first behind class same
 told-lent L t (sound e b u) T = record { laid = L; is-type = t; ready = record { shaped = e; untied = u; points = T .points; classes = T .classes } }

@@ -1,8 +1,14 @@
 // Fit: is the sheet's forest of the type at a row. Siblings are walked in a loop; only nesting costs stack.
+use bits::PLACES;
+use bits::ROWS;
+use bits::Sets;
+use bits::WORDS;
 use sheet::Layout;
 use sheet::Row;
-use ties::Soundness;
-use ties::Tied;
+use type_heads::HEADS;
+use type_heads::Leads;
+use type_ties::Soundness;
+use type_ties::Tied;
 ghost use mathlib.Core.Path.{_≡_};
 ghost use mathlib.Core.Bool.{true, cond};
 ghost use mathlib.Core.Logic.{_↔_};
@@ -14,8 +20,8 @@ ghost use Rattle.meaning.specs.Reply.{Fitted};
 ghost use Rattle.meaning.specs.Laws.Wired.{Wired, ends};
 ghost use Rattle.sheet.specs.Laid.{cellsOf};
 ghost use Rattle.sheet.specs.Whole.{Whole};
-ghost use Rattle.heads.specs.Heads.{actingAt};
-ghost use Rattle.places.specs.Tables.{modelOf, setOf};
+ghost use Rattle.type_heads.specs.Heads.{actingAt};
+ghost use Rattle.type_places.specs.Tables.{modelOf, setOf};
 ghost use Rattle.fit.specs.Answers.{fitOf};
 ghost use Rattle.fit.specs.Fitting.{treeNumber, Looked, Inside, Ready, Walks, Told, IsOf};
 
@@ -37,7 +43,7 @@ fn tree_head(c: Row) -> usize
         1 => 1024,
         2 | 3 => 1025,
         4 => c.p,
-        0 | 5..=65535 => 1026,
+        0 | 5..=65535 => HEADS,
     }
 }
 
@@ -46,16 +52,16 @@ fn place(
     h: usize,
     fresh: bool,
     a: usize,
-    first: &[u64; 4617],
-    next: &[u64; 4617],
-    class: &[u16; 1026],
-    same: &[u64; 4617],
+    first: &Sets,
+    next: &Sets,
+    class: &Leads,
+    same: &Sets,
 ) -> usize
     requires { ⌜ (a ≤ 512) × ((i : ℕ) → i < 1026 → getD (now class) i 0 ≤ 512) ⌝ }
     ensures { λ r. ⌜ Looked (cond fresh (now (first .entry)) (now (next .entry))) a h (now (class .entry)) (now (same .entry)) r ⌝ }
 {
-    if 1026 <= h {
-        return 576;
+    if HEADS <= h {
+        return PLACES;
     }
     let c = class[h] as usize;
     if fresh {
@@ -65,7 +71,7 @@ fn place(
 }
 
 // Whether no tree need stand at a point: End is place 0.
-fn may_end(fresh: bool, a: usize, first: &[u64; 4617], next: &[u64; 4617]) -> bool
+fn may_end(fresh: bool, a: usize, first: &Sets, next: &Sets) -> bool
     requires { ⌜ a ≤ 512 ⌝ }
     ensures { λ r. ⌜ r ≡ inSet (cond fresh (now (first .entry)) (now (next .entry))) a 0 ⌝ }
 {
@@ -90,19 +96,20 @@ fn content_at(s: &[u8], a: usize) -> usize
     requires { ⌜ Whole (now s) ⌝ }
     ensures { λ q. ⌜ q ≡ actingAt (now (s .entry)) a .q ⌝ }
 {
-    heads::acting(s, sheet::lay_out(s), a).q
+    type_heads::acting(s, sheet::lay_out(s), a).q
 }
 
-// Whether the trees at row `r` are of the model at row `k`, whose next sets are in `next`: each tree takes the one place with its head, its children start that place's content.
+// Whether the trees at row `r` are of the model at row `k`, whose next sets are in `next`: each tree takes the one place with its head,
+// its children start that place's content.
 fn trees(
     s: &[u8],
     r: usize,
     k: usize,
-    first: &[u64; 4617],
-    next: &[u64; 4617],
-    behind: &[u64; 4617],
-    class: &[u16; 1026],
-    same: &[u64; 4617],
+    first: &Sets,
+    next: &Sets,
+    behind: &Sets,
+    class: &Leads,
+    same: &Sets,
 ) -> bool
     requires { ⌜ Ready (now s) (now first) (now behind) (now class) (now same) × Walks (now s) r k (now next) ⌝ }
     ensures { λ b. ⌜ (b ≡ true ↔ Inside (now (s .entry)) r k) ⌝ }
@@ -113,7 +120,7 @@ fn trees(
     while r != 0 {
         let c = tree_at(s, r);
         let b = place(tree_head(c), fresh, a, first, next, class, same);
-        if 576 <= b {
+        if PLACES <= b {
             return false;
         }
         if c.kind == 4 {
@@ -129,16 +136,17 @@ fn trees(
     may_end(fresh, a, first, next)
 }
 
-// Whether the sheet's forest is of the type at row `told`, by the sheet's tables (`tables::judge`) and the next sets of that row's model: those of a root are in `behind`.
+// Whether the sheet's forest is of the type at row `told`, by the sheet's tables (`type_tables::judge`) and the next sets of that row's
+// model: those of a root are in `behind`.
 pub fn of_type(
     s: &[u8],
     l: Layout,
     told: usize,
-    first: &[u64; 4617],
-    next: &[u64; 4617],
-    behind: &[u64; 4617],
-    class: &[u16; 1026],
-    same: &[u64; 4617],
+    first: &Sets,
+    next: &Sets,
+    behind: &Sets,
+    class: &Leads,
+    same: &Sets,
 ) -> bool
     requires { ⌜ Told (now s) l told (now first) (now behind) (now class) (now same) ⌝ }
     requires { ⌜ Wired (setOf (now next)) (modelOf (now s) told) ends ⌝ }
@@ -152,21 +160,21 @@ fn of_part(
     s: &[u8],
     l: Layout,
     told: usize,
-    first: &[u64; 4617],
-    behind: &[u64; 4617],
-    class: &[u16; 1026],
-    same: &[u64; 4617],
+    first: &Sets,
+    behind: &Sets,
+    class: &Leads,
+    same: &Sets,
 ) -> bool
     requires { ⌜ Told (now s) l told (now first) (now behind) (now class) (now same) ⌝ }
     ensures { λ b. ⌜ IsOf (now (s .entry)) told b ⌝ }
 {
-    let mut top = [0u8; 513];
-    let mut null = [0u8; 513];
-    let mut begin = [0u64; 4617];
-    let mut next = [0u64; 4617];
+    let mut top = [0u8; ROWS];
+    let mut null = [0u8; ROWS];
+    let mut begin = [0u64; WORDS];
+    let mut next = [0u64; WORDS];
     top[told] = 1;
-    places::firsts(s, l.types_at, l.types, 0, &mut null, &mut begin);
-    places::behinds(
+    type_places::firsts(s, l.types_at, l.types, 0, &mut null, &mut begin);
+    type_places::behinds(
         s,
         l.types_at,
         l.types,
@@ -185,16 +193,16 @@ fn of_row(
     s: &[u8],
     l: Layout,
     told: usize,
-    first: &[u64; 4617],
-    behind: &[u64; 4617],
-    class: &[u16; 1026],
-    same: &[u64; 4617],
+    first: &Sets,
+    behind: &Sets,
+    class: &Leads,
+    same: &Sets,
 ) -> bool
     requires { ⌜ Told (now s) l told (now first) (now behind) (now class) (now same) ⌝ }
     ensures { λ b. ⌜ IsOf (now (s .entry)) told b ⌝ }
 {
-    let mut root = [0u8; 513];
-    roots::roots(s, l, &mut root);
+    let mut root = [0u8; ROWS];
+    type_models::roots(s, l, &mut root);
     if root[told] == 1 {
         return of_type(s, l, told, first, behind, behind, class, same);
     }
@@ -215,12 +223,12 @@ pub fn fit(s: &[u8], told: usize) -> Answer
     if l.types < told {
         return Answer::Shape;
     }
-    let mut first = [0u64; 4617];
-    let mut behind = [0u64; 4617];
-    let mut class = [0u16; 1026];
-    let mut same = [0u64; 4617];
-    let mut kin = [0u16; 576];
-    match tables::judge(
+    let mut first = [0u64; WORDS];
+    let mut behind = [0u64; WORDS];
+    let mut class = [0u16; HEADS];
+    let mut same = [0u64; WORDS];
+    let mut kin = [0u16; PLACES];
+    match type_tables::judge(
         s,
         l,
         &mut first,

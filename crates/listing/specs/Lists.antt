@@ -11,10 +11,63 @@ use Rattle.meaning.specs.Sheet.{scriptOf, need}
 use Rattle.meaning.specs.Walk.{Verdict, gives, stops}
 use Rattle.meaning.specs.Walk as walk
 use Rattle.meaning.specs.Bundle.{framed, sheetIn}
-use Rattle.meaning.specs.Reply.{Refusal, block, shape, barren, tie, depth, wide, mismatch, outside, unfit, stuck, scratch, room, Answer, done, refused, Coded, refusal-code, answer-code, verdict-answer, Loads, misshapen, is-barren, is-tied, sound, Checked, Fitted, Ran, RunReply, CheckReply, read}
+use Rattle.meaning.specs.Reply.{
+  Refusal,
+  block,
+  shape,
+  barren,
+  tie,
+  depth,
+  wide,
+  mismatch,
+  outside,
+  unfit,
+  stuck,
+  scratch,
+  room,
+  Answer,
+  done,
+  refused,
+  Coded,
+  refusal-code,
+  answer-code,
+  verdict-answer,
+  Loads,
+  misshapen,
+  is-barren,
+  is-tied,
+  sound,
+  Checked,
+  Fitted,
+  Ran,
+  RunReply,
+  CheckReply,
+  read,
+}
 use Rattle.meaning.specs.Reply as meaning
-use Rattle.meaning.specs.Listing.{codes, line, number, Told, loaded, check-ended, fit-ended, run-ended, all-done, listing, row-lines, lent-work, lent-result, Tells, not-framed, not-loaded, not-checked, not-fit, not-run, told}
-use Rattle.lines.specs.Adds.{Adds, adds-as, adds-then}
+use Rattle.meaning.specs.Listing.{
+  codes,
+  line,
+  number,
+  Told,
+  loaded,
+  check-ended,
+  fit-ended,
+  run-ended,
+  all-done,
+  listing,
+  row-lines,
+  lent-work,
+  lent-result,
+  Tells,
+  not-framed,
+  not-loaded,
+  not-checked,
+  not-fit,
+  not-run,
+  told,
+}
+use Rattle.listing.specs.Adds.{Adds, adds-as, adds-then}
 use Rattle.bundle.specs.declared.Copied.{Copied}
 use Rattle.bundle.specs.declared.Copied.the-variants.{Done, Block, Shape, Room}
 use Rattle.bundle.specs.Calls.{copiedOf, replied}
@@ -170,7 +223,8 @@ pub load-lists : (b lent : List ℕ) {old new after : List ℕ} {l : Listed} (r 
 unfolding listing answer-code
 load-lists b lent Done e n d is a = absurd (d refl)
 load-lists b lent {l = l} Block e n d is a = lists-told {t = loaded block} (not-framed (read-block b lent e refl)) (adds-as (ap (λ (k : ℕ). line "load" (k ∷ [])) is) a) is
-load-lists b lent {l = l} Shape e n d is a = let x = read-shape b lent e refl in lists-told {t = loaded shape} (not-loaded (x .0) (misshapen (x .1))) (adds-as (ap (λ (k : ℕ). line "load" (k ∷ [])) is) a) is
+load-lists b lent {l = l} Shape e n d is a = let x = read-shape b lent e refl in
+    lists-told {t = loaded shape} (not-loaded (x .0) (misshapen (x .1))) (adds-as (ap (λ (k : ℕ). line "load" (k ∷ [])) is) a) is
 load-lists b lent Room e n d is a = absurd (never-room b lent e n refl)
 
 -- ---- each answer's part, as the code adds it
@@ -250,10 +304,12 @@ module _ {s : List ℕ} (c : CheckAnswer) (x : Given) (u : ℕ) {w work : List �
       let z = is-refused (checkedAnswer c) (λ e. n (check-is ∙ e)) in
       (z .0, subst (λ (y : Answer). Checked s lent-work y u) (z .1) check-said, check-is ∙ ap numbered (z .1) ∙ code-refused (z .0))
 
-  pub check-loaded : {old new : List ℕ} {end : ℕ} → (x .number ≡ 0 → ⊥) → x .number < 5 → Adds (line "load" (x .number ∷ [])) old 0 new end → SheetTold s old new (record { bytes = end; number = x .number })
+  pub check-loaded : {old new : List ℕ} {end : ℕ} → (x .number ≡ 0 → ⊥) → x .number < 5 → Adds (line "load" (x .number ∷ [])) old 0 new end
+      → SheetTold s old new (record { bytes = end; number = x .number })
   check-loaded n f a = let z = not-done n in let e = z .2 in unsound {r = z .0} (z .1) (omega arith) (adds-as (ap (λ (k : ℕ). line "load" (k ∷ [])) e) a) e
 
-  pub check-refused : {old new : List ℕ} {end : ℕ} → (x .number ≡ 0 → ⊥) → 5 ≤ x .number → Adds (line "check" (x .number ∷ u ∷ [])) old 0 new end → SheetTold s old new (record { bytes = end; number = x .number })
+  pub check-refused : {old new : List ℕ} {end : ℕ} → (x .number ≡ 0 → ⊥) → 5 ≤ x .number → Adds (line "check" (x .number ∷ u ∷ [])) old 0 new end
+      → SheetTold s old new (record { bytes = end; number = x .number })
   check-refused n f a = let z = not-done n in let e = z .2 in unchecked {r = z .0} (z .1) (omega arith) (adds-as (ap (λ (k : ℕ). line "check" (k ∷ u ∷ [])) e) a) e
 
   pub check-done : {old mid new : List ℕ} {m : ℕ} {l : Listed} → x .number ≡ 0 → Adds (line "check" (x .number ∷ u ∷ [])) old 0 mid m → FitTold s mid m new l → SheetTold s old new l

@@ -1,11 +1,14 @@
-// The listing that the program `apply` prints. The bundle's questions are asked in turn, each by itself, until one is refused; each answer is a line.
+// The listing that the program `apply` prints. The bundle's questions are asked in turn, each by itself, until one is refused; each
+// answer is a line.
+pub mod lines;
+
 use bundle::Copied;
 ghost use mathlib.Core.Path.{_≡_};
 ghost use mathlib.Core.List.{[], _∷_};
 ghost use Prim.Native.Nat.{_+_, _≤_};
 ghost use lib.ListN.{length};
 ghost use Rattle.meaning.specs.Listing.{line, lent-work, lent-result};
-ghost use Rattle.lines.specs.Adds.{Adds};
+ghost use Rattle.listing.specs.Adds.{Adds};
 ghost use Rattle.listing.specs.Lists.{RunTold, FitTold, SheetTold, Lists};
 
 // The listing's bytes, and the number that ended it: 0 where all is done.
@@ -31,8 +34,8 @@ fn load_line(out: &mut [u8], number: usize) -> usize
     requires { ⌜ 15 ≤ length (now out) ⌝ }
     ensures { λ r. ⌜ Adds (line "load" (number ∷ [])) (now (out .entry)) 0 (now (out .exit)) r ⌝ }
 {
-    let end = lines::word(out, 0, b"load");
-    lines::fields1(out, end, number)
+    let end = crate::lines::word(out, 0, b"load");
+    crate::lines::fields1(out, end, number)
 }
 
 fn check_line(out: &mut [u8], number: usize, units: usize) -> usize
@@ -40,8 +43,8 @@ fn check_line(out: &mut [u8], number: usize, units: usize) -> usize
     ensures { λ r. ⌜ Adds (line "check" (number ∷ units ∷ [])) (now (out .entry)) 0 (now (out .exit)) r ⌝ }
     ensures { λ r. ⌜ r ≤ 26 ⌝ }
 {
-    let end = lines::word(out, 0, b"check");
-    lines::fields2(out, end, number, units)
+    let end = crate::lines::word(out, 0, b"check");
+    crate::lines::fields2(out, end, number, units)
 }
 
 fn fit_line(out: &mut [u8], at: usize, number: usize) -> usize
@@ -49,16 +52,16 @@ fn fit_line(out: &mut [u8], at: usize, number: usize) -> usize
     ensures { λ r. ⌜ Adds (line "fit" (number ∷ [])) (now (out .entry)) at (now (out .exit)) r ⌝ }
     ensures { λ r. ⌜ r ≤ at + 14 ⌝ }
 {
-    let end = lines::word(out, at, b"fit");
-    lines::fields1(out, end, number)
+    let end = crate::lines::word(out, at, b"fit");
+    crate::lines::fields1(out, end, number)
 }
 
 fn run_line(out: &mut [u8], at: usize, number: usize, units: usize) -> usize
     requires { ⌜ at + 24 ≤ length (now out) ⌝ }
     ensures { λ r. ⌜ Adds (line "run" (number ∷ units ∷ [])) (now (out .entry)) at (now (out .exit)) r ⌝ }
 {
-    let end = lines::word(out, at, b"run");
-    lines::fields2(out, end, number, units)
+    let end = crate::lines::word(out, at, b"run");
+    crate::lines::fields2(out, end, number, units)
 }
 
 fn done_line(out: &mut [u8], at: usize, units: usize, root: usize) -> usize
@@ -66,8 +69,8 @@ fn done_line(out: &mut [u8], at: usize, units: usize, root: usize) -> usize
     ensures { λ r. ⌜ Adds (line "run" (0 ∷ units ∷ root ∷ [])) (now (out .entry)) at (now (out .exit)) r ⌝ }
     ensures { λ r. ⌜ r ≤ at + 34 ⌝ }
 {
-    let end = lines::word(out, at, b"run");
-    lines::fields3(out, end, 0, units, root)
+    let end = crate::lines::word(out, at, b"run");
+    crate::lines::fields3(out, end, 0, units, root)
 }
 
 // The run's line, and where it is done its rows.
@@ -87,7 +90,7 @@ fn run_told(s: &[u8], out: &mut [u8], at: usize) -> Listed
     }
     let root = coded::root(answer);
     let end = done_line(out, at, units, root);
-    let bytes = lines::rows(out, end, &result, root);
+    let bytes = crate::lines::rows(out, end, &result, root);
     Listed { bytes, number }
 }
 

@@ -1,4 +1,5 @@
--- Bundles (document 01, "Bundles: blocks of 512 bytes"): the one rule by which a sheet is written into blocks, and the five tests of a bundle that is read.
+-- Bundles (document 01, "Bundles: blocks of 512 bytes"): the one rule by which a sheet is written into blocks, and the five tests of a
+-- bundle that is read.
 use Prim.Native.Nat.{ℕ, zero, suc, _+_, _*_, _-_, _/_, _%_}
 use mathlib.Core.Bool.{Bool, true, false, _&&_}
 use mathlib.Core.List.{List, [], _∷_, _++_}

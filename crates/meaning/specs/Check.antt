@@ -9,7 +9,26 @@ use Rattle.meaning.specs.Limits.{most-depth, most-width}
 use Rattle.meaning.specs.Sheet.{Script, Sheet, Procedure}
 use Rattle.meaning.specs.Kinds.{Query, Test, Statement, queryAt, statementAt, present}
 use Rattle.meaning.specs.Types.{Ty, Named, Of, Within, size, Atom, atomOf, declared, namesIn}
-use Rattle.meaning.specs.Walk.{Stop, depth, wide, mismatch, outside, Place, of-query, of-statement, of-output, Walk, ret, halt, tick, ask, _>>=_, Judgement, pass, stop}
+use Rattle.meaning.specs.Walk.{
+  Stop,
+  depth,
+  wide,
+  mismatch,
+  outside,
+  Place,
+  of-query,
+  of-statement,
+  of-output,
+  Walk,
+  ret,
+  halt,
+  tick,
+  ask,
+  _>>=_,
+  Judgement,
+  pass,
+  stop,
+}
 use Rattle.meaning.specs.Run.{Fate, misfit, matched, passed, if-so, arguments}
 
 -- ---- questions
@@ -36,7 +55,8 @@ is-in σ τ k at = record { found = σ; wanted = τ; number = k; place = at }
 pub data Judged (names : ℕ → Named) : Question → Judgement → Type 0 where
   too-wide : {q : Question} → most-width < size (q .found) → Judged names q (stop (wide (q .place)))
   holds : {q : Question} → size (q .found) ≤ most-width → Within names (q .found) (q .wanted) → Judged names q pass
-  fails : {q : Question} → size (q .found) ≤ most-width → (Within names (q .found) (q .wanted) → ⊥) → Judged names q (stop (unmet (q .number) (q .place)))
+  fails : {q : Question} → size (q .found) ≤ most-width → (Within names (q .found) (q .wanted) → ⊥)
+      → Judged names q (stop (unmet (q .number) (q .place)))
 
 abbrev pub Asking : Type 0 → Type 0
 Asking A = Walk Question A
@@ -128,8 +148,10 @@ module _ (names : ℕ → Named) where
   query-type (Query.bool b) i go Γ = written Ty.bool
   query-type (Query.variable v) i go Γ = ret (getD Γ v Ty.empty)
   query-type (Query.letin p q) i go Γ = go Γ p >>= λ x. go (Γ ++ x ∷ []) q
-  query-type (Query.if p q r) i go Γ = go Γ p >>= λ c. ask (is-in c Ty.bool eight (of-query i)) (go Γ q >>= λ x. go Γ r >>= λ y. written (Ty.choice x y))
-  query-type (Query.same p q) i go Γ = go Γ p >>= λ x. go Γ q >>= λ y. ask (is-in x Ty.text eight (of-query i)) (ask (is-in y Ty.text eight (of-query i)) (written Ty.bool))
+  query-type (Query.if p q r) i go Γ = go Γ p >>= λ c. ask (is-in c Ty.bool eight (of-query i))
+      (go Γ q >>= λ x. go Γ r >>= λ y. written (Ty.choice x y))
+  query-type (Query.same p q) i go Γ = go Γ p >>= λ x. go Γ q >>= λ y. ask (is-in x Ty.text eight (of-query i))
+      (ask (is-in y Ty.text eight (of-query i)) (written Ty.bool))
   query-type (Query.children v) i go Γ = inside-type (of-query i) (atomOf names (getD Γ v Ty.empty))
   query-type (Query.pick p l) i go Γ = go Γ p >>= parts (λ α. picked (tests (Test.label l) (atomOf names α)) α)
   query-type (Query.for p q) i go Γ = go Γ p >>= parts (λ α. go (Γ ++ α ∷ []) q)
@@ -147,7 +169,8 @@ module _ (names : ℕ → Named) (declares : ℕ → Declaration) where
   statement-type Statement.none i go asks Γ τ = halt (mismatch (of-statement i))
   statement-type Statement.skip i go asks Γ τ = ret τ
   statement-type (Statement.then p q) i go asks Γ τ = go Γ p τ >>= go Γ q
-  statement-type (Statement.if p q r) i go asks Γ τ = asks Γ p >>= λ c. ask (is-in c Ty.bool eight (of-statement i)) (go Γ q τ >>= λ x. go Γ r τ >>= λ y. written (Ty.choice x y))
+  statement-type (Statement.if p q r) i go asks Γ τ =
+      asks Γ p >>= λ c. ask (is-in c Ty.bool eight (of-statement i)) (go Γ q τ >>= λ x. go Γ r τ >>= λ y. written (Ty.choice x y))
   statement-type (Statement.insert p) i go asks Γ τ = ask (is-in τ Ty.empty eight (of-statement i)) (asks Γ p)
   statement-type Statement.delete i go asks Γ τ = written Ty.empty
   statement-type (Statement.rename l) i go asks Γ τ = rename-type (of-statement i) l (atomOf names τ)
@@ -158,7 +181,9 @@ module _ (names : ℕ → Named) (declares : ℕ → Declaration) where
   statement-type (Statement.left p) i go asks Γ τ = go Γ p Ty.empty >>= λ x. written (Ty.seq x τ)
   statement-type (Statement.right p) i go asks Γ τ = go Γ p Ty.empty >>= λ x. written (Ty.seq τ x)
   statement-type (Statement.iter p) i go asks Γ τ = parts (go Γ p) τ
-  statement-type (Statement.call c l) i go asks Γ τ = ask (is-in τ (declares c .input) nine (of-statement i)) (arguments (asks Γ) l >>= λ x. ask-all (of-statement i) x (declares c .parameters) (ret (declares c .output)))
+  statement-type (Statement.call c l) i go asks Γ τ =
+      ask (is-in τ (declares c .input) nine (of-statement i))
+      (arguments (asks Γ) l >>= λ x. ask-all (of-statement i) x (declares c .parameters) (ret (declares c .output)))
 
 -- ---- rows, by the levels of depth that are left
 
@@ -189,7 +214,8 @@ module _ (S : Script) where
   -- procedures 1 to n, in number order, and then what follows
   unfoldable pub bodies : ℕ → Asking Ty → Asking Ty
   bodies zero w = w
-  bodies (suc n) w = bodies n (body (declaration S (suc n) .parameters) (S .procedureRow (suc n) .body) (declaration S (suc n) .input) (declaration S (suc n) .output) >>= λ x. w)
+  bodies (suc n) w = bodies n (body (declaration S (suc n) .parameters) (S .procedureRow (suc n) .body) (declaration S (suc n) .input)
+      (declaration S (suc n) .output) >>= λ x. w)
 
   -- the whole: every procedure, then main from A to B
   unfoldable pub check-walk : Asking Ty

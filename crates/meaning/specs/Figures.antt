@@ -1,5 +1,7 @@
--- The paper's judgments, as document 01 narrows them: run by figures 3 and 12, typing by figures 4 and 13, with appendix A's judgments for pick and for.
--- No units, no depth, no order. A premise `statementAt S i ≡ ..` says which rule a row is for. Subsumption stands only where document 01 asks for inclusion, and arities are replaced by "an atom as written".
+-- The paper's judgments, as document 01 narrows them: run by figures 3 and 12, typing by figures 4 and 13, with appendix A's judgments for
+-- pick and for.
+-- No units, no depth, no order. A premise `statementAt S i ≡ ..` says which rule a row is for. Subsumption stands only where document 01
+-- asks for inclusion, and arities are replaced by "an atom as written".
 -- What a rule looks at is said by relations of its own, not by functions of run and check; Laws/Figures shows that they agree.
 use Prim.Native.Nat.{ℕ, _≤_}
 use mathlib.Core.Path.{_≡_}
@@ -54,8 +56,10 @@ module _ (S : Script) (byte : ℕ → ℕ) where
       g-bool : {γ : Env} {i : ℕ} {b : Bool} → queryAt S i ≡ Query.bool b → Gives γ i (only (Tree.bool b))
       g-variable : {γ : Env} {i v : ℕ} {x : Forest} → queryAt S i ≡ Query.variable v → getD γ v nil ≡ x → Gives γ i x
       g-let : {γ : Env} {i p q : ℕ} {x y : Forest} → queryAt S i ≡ Query.letin p q → Gives γ p x → Gives (γ ++ x ∷ []) q y → Gives γ i y
-      g-if-true : {γ : Env} {i p q r : ℕ} {x : Forest} → queryAt S i ≡ Query.if p q r → Gives γ p (only (Tree.bool true)) → Gives γ q x → Gives γ i x
-      g-if-false : {γ : Env} {i p q r : ℕ} {x : Forest} → queryAt S i ≡ Query.if p q r → Gives γ p (only (Tree.bool false)) → Gives γ r x → Gives γ i x
+      g-if-true : {γ : Env} {i p q r : ℕ} {x : Forest} → queryAt S i ≡ Query.if p q r → Gives γ p (only (Tree.bool true)) → Gives γ q x
+          → Gives γ i x
+      g-if-false : {γ : Env} {i p q r : ℕ} {x : Forest} → queryAt S i ≡ Query.if p q r → Gives γ p (only (Tree.bool false)) → Gives γ r x
+          → Gives γ i x
       g-same : {γ : Env} {i p q : ℕ} {w v : Text} {b : Bool} → queryAt S i ≡ Query.same p q
           → Gives γ p (only (Tree.text w)) → Gives γ q (only (Tree.text v)) → Same w v b → Gives γ i (only (Tree.bool b))
       g-children : {γ : Env} {i v : ℕ} {x : Forest} → queryAt S i ≡ Query.children v → Inside (getD γ v nil) x → Gives γ i x
@@ -78,21 +82,27 @@ module _ (S : Script) (byte : ℕ → ℕ) where
     pub data Takes : Env → ℕ → Forest → Forest → Type 0 where
       t-skip : {γ : Env} {i : ℕ} {f : Forest} → statementAt S i ≡ Statement.skip → Takes γ i f f
       t-then : {γ : Env} {i p q : ℕ} {f g h : Forest} → statementAt S i ≡ Statement.then p q → Takes γ p f g → Takes γ q g h → Takes γ i f h
-      t-if-true : {γ : Env} {i p q r : ℕ} {f g : Forest} → statementAt S i ≡ Statement.if p q r → Gives γ p (only (Tree.bool true)) → Takes γ q f g → Takes γ i f g
-      t-if-false : {γ : Env} {i p q r : ℕ} {f g : Forest} → statementAt S i ≡ Statement.if p q r → Gives γ p (only (Tree.bool false)) → Takes γ r f g → Takes γ i f g
+      t-if-true : {γ : Env} {i p q r : ℕ} {f g : Forest} → statementAt S i ≡ Statement.if p q r → Gives γ p (only (Tree.bool true))
+          → Takes γ q f g → Takes γ i f g
+      t-if-false : {γ : Env} {i p q r : ℕ} {f g : Forest} → statementAt S i ≡ Statement.if p q r → Gives γ p (only (Tree.bool false))
+          → Takes γ r f g → Takes γ i f g
       t-insert : {γ : Env} {i p : ℕ} {x : Forest} → statementAt S i ≡ Statement.insert p → Gives γ p x → Takes γ i nil x
       t-delete : {γ : Env} {i : ℕ} {f : Forest} → statementAt S i ≡ Statement.delete → Takes γ i f nil
-      t-rename : {γ : Env} {i l n : ℕ} {f : Forest} → statementAt S i ≡ Statement.rename l → Takes γ i (only (Tree.node n f)) (only (Tree.node l f))
-      t-let : {γ : Env} {i p q : ℕ} {x f g : Forest} → statementAt S i ≡ Statement.letin p q → Gives γ p x → Takes (γ ++ x ∷ []) q f g → Takes γ i f g
+      t-rename : {γ : Env} {i l n : ℕ} {f : Forest} → statementAt S i ≡ Statement.rename l
+          → Takes γ i (only (Tree.node n f)) (only (Tree.node l f))
+      t-let : {γ : Env} {i p q : ℕ} {x f g : Forest} → statementAt S i ≡ Statement.letin p q → Gives γ p x → Takes (γ ++ x ∷ []) q f g
+          → Takes γ i f g
       t-snapshot : {γ : Env} {i p : ℕ} {f g : Forest} → statementAt S i ≡ Statement.snapshot p → Takes (γ ++ f ∷ []) p f g → Takes γ i f g
       t-test : {γ : Env} {i r : ℕ} {t : Test} {u : Tree} {g : Forest} → statementAt S i ≡ Statement.test t r
           → Matches t u → Takes γ r (only u) g → Takes γ i (only u) g
       t-pass : {γ : Env} {i r : ℕ} {t : Test} {u : Tree} → statementAt S i ≡ Statement.test t r → Differs t u → Takes γ i (only u) (only u)
-      t-children : {γ : Env} {i p n : ℕ} {f g : Forest} → statementAt S i ≡ Statement.children p → Takes γ p f g → Takes γ i (only (Tree.node n f)) (only (Tree.node n g))
+      t-children : {γ : Env} {i p n : ℕ} {f g : Forest} → statementAt S i ≡ Statement.children p → Takes γ p f g
+          → Takes γ i (only (Tree.node n f)) (only (Tree.node n g))
       t-left : {γ : Env} {i p : ℕ} {f x g : Forest} → statementAt S i ≡ Statement.left p → Takes γ p nil x → x ⊕ f ≡ g → Takes γ i f g
       t-right : {γ : Env} {i p : ℕ} {f x g : Forest} → statementAt S i ≡ Statement.right p → Takes γ p nil x → f ⊕ x ≡ g → Takes γ i f g
       t-iter : {γ : Env} {i p : ℕ} {f g : Forest} → statementAt S i ≡ Statement.iter p → TakesEach γ p f g → Takes γ i f g
-      t-call : {γ : Env} {i c : ℕ} {l : List ℕ} {m : List Forest} {f g : Forest} → statementAt S i ≡ Statement.call c l → GivesAll γ l m → Takes m (S .procedureRow c .body) f g → Takes γ i f g
+      t-call : {γ : Env} {i c : ℕ} {l : List ℕ} {m : List Forest} {f g : Forest} → statementAt S i ≡ Statement.call c l → GivesAll γ l m
+          → Takes m (S .procedureRow c .body) f g → Takes γ i f g
 
     -- iter: each tree of the focus as it was
     pub data TakesEach : Env → ℕ → Forest → Forest → Type 0 where
@@ -146,8 +156,10 @@ module _ (S : Script) where
       h-bool : {Γ : Types} {i : ℕ} {b : Bool} → queryAt S i ≡ Query.bool b → Has Γ i Ty.bool
       h-variable : {Γ : Types} {i v : ℕ} {τ : Ty} → queryAt S i ≡ Query.variable v → getD Γ v Ty.empty ≡ τ → Has Γ i τ
       h-let : {Γ : Types} {i p q : ℕ} {τ σ : Ty} → queryAt S i ≡ Query.letin p q → Has Γ p τ → Has (Γ ++ τ ∷ []) q σ → Has Γ i σ
-      h-if : {Γ : Types} {i p q r : ℕ} {c τ σ : Ty} → queryAt S i ≡ Query.if p q r → Has Γ p c → Within (namesIn S) c Ty.bool → Has Γ q τ → Has Γ r σ → Has Γ i (Ty.choice τ σ)
-      h-same : {Γ : Types} {i p q : ℕ} {τ σ : Ty} → queryAt S i ≡ Query.same p q → Has Γ p τ → Has Γ q σ → Within (namesIn S) τ Ty.text → Within (namesIn S) σ Ty.text → Has Γ i Ty.bool
+      h-if : {Γ : Types} {i p q r : ℕ} {c τ σ : Ty} → queryAt S i ≡ Query.if p q r → Has Γ p c → Within (namesIn S) c Ty.bool → Has Γ q τ
+          → Has Γ r σ → Has Γ i (Ty.choice τ σ)
+      h-same : {Γ : Types} {i p q : ℕ} {τ σ : Ty} → queryAt S i ≡ Query.same p q → Has Γ p τ → Has Γ q σ → Within (namesIn S) τ Ty.text
+          → Within (namesIn S) σ Ty.text → Has Γ i Ty.bool
       h-children : {Γ : Types} {i v n : ℕ} {τ : Ty} → queryAt S i ≡ Query.children v
           → Labelled (namesIn S) (getD Γ v Ty.empty) n τ → Has Γ i τ
       h-pick : {Γ : Types} {i p l : ℕ} {τ σ : Ty} → queryAt S i ≡ Query.pick p l → Has Γ p τ → Picks (namesIn S) l τ σ → Has Γ i σ
@@ -175,12 +187,15 @@ module _ (S : Script) where
     pub data Typed : Types → ℕ → Ty → Ty → Type 0 where
       y-skip : {Γ : Types} {i : ℕ} {τ : Ty} → statementAt S i ≡ Statement.skip → Typed Γ i τ τ
       y-then : {Γ : Types} {i p q : ℕ} {τ σ ρ : Ty} → statementAt S i ≡ Statement.then p q → Typed Γ p τ σ → Typed Γ q σ ρ → Typed Γ i τ ρ
-      y-if : {Γ : Types} {i p q r : ℕ} {c τ σ ρ : Ty} → statementAt S i ≡ Statement.if p q r → Has Γ p c → Within (namesIn S) c Ty.bool → Typed Γ q τ σ → Typed Γ r τ ρ → Typed Γ i τ (Ty.choice σ ρ)
-      y-insert : {Γ : Types} {i p : ℕ} {τ σ : Ty} → statementAt S i ≡ Statement.insert p → Within (namesIn S) τ Ty.empty → Has Γ p σ → Typed Γ i τ σ
+      y-if : {Γ : Types} {i p q r : ℕ} {c τ σ ρ : Ty} → statementAt S i ≡ Statement.if p q r → Has Γ p c → Within (namesIn S) c Ty.bool
+          → Typed Γ q τ σ → Typed Γ r τ ρ → Typed Γ i τ (Ty.choice σ ρ)
+      y-insert : {Γ : Types} {i p : ℕ} {τ σ : Ty} → statementAt S i ≡ Statement.insert p → Within (namesIn S) τ Ty.empty → Has Γ p σ
+          → Typed Γ i τ σ
       y-delete : {Γ : Types} {i : ℕ} {τ : Ty} → statementAt S i ≡ Statement.delete → Typed Γ i τ Ty.empty
       y-rename : {Γ : Types} {i l n : ℕ} {α τ : Ty} → statementAt S i ≡ Statement.rename l
           → Labelled (namesIn S) α n τ → Typed Γ i α (Ty.label l τ)
-      y-let : {Γ : Types} {i p q : ℕ} {ρ τ σ : Ty} → statementAt S i ≡ Statement.letin p q → Has Γ p ρ → Typed (Γ ++ ρ ∷ []) q τ σ → Typed Γ i τ σ
+      y-let : {Γ : Types} {i p q : ℕ} {ρ τ σ : Ty} → statementAt S i ≡ Statement.letin p q → Has Γ p ρ → Typed (Γ ++ ρ ∷ []) q τ σ
+          → Typed Γ i τ σ
       y-snapshot : {Γ : Types} {i p : ℕ} {τ σ : Ty} → statementAt S i ≡ Statement.snapshot p → Typed (Γ ++ τ ∷ []) p τ σ → Typed Γ i τ σ
       y-test : {Γ : Types} {i r : ℕ} {t : Test} {τ σ : Ty} → statementAt S i ≡ Statement.test t r
           → TestMatches (namesIn S) t τ → Typed Γ r τ σ → Typed Γ i τ σ
@@ -191,13 +206,16 @@ module _ (S : Script) where
       y-left : {Γ : Types} {i p : ℕ} {τ σ : Ty} → statementAt S i ≡ Statement.left p → Typed Γ p Ty.empty σ → Typed Γ i τ (Ty.seq σ τ)
       y-right : {Γ : Types} {i p : ℕ} {τ σ : Ty} → statementAt S i ≡ Statement.right p → Typed Γ p Ty.empty σ → Typed Γ i τ (Ty.seq τ σ)
       y-iter : {Γ : Types} {i p : ℕ} {τ σ : Ty} → statementAt S i ≡ Statement.iter p → TypedEach Γ p τ σ → Typed Γ i τ σ
-      y-call : {Γ : Types} {i c : ℕ} {l : List ℕ} {m : List Ty} {τ σ : Ty} → statementAt S i ≡ Statement.call c l → Within (namesIn S) τ (declaration S c .input) → HasAll Γ l m → Lie m (declaration S c .parameters) → declaration S c .output ≡ σ → Typed Γ i τ σ
+      y-call : {Γ : Types} {i c : ℕ} {l : List ℕ} {m : List Ty} {τ σ : Ty} → statementAt S i ≡ Statement.call c l
+          → Within (namesIn S) τ (declaration S c .input) → HasAll Γ l m → Lie m (declaration S c .parameters) → declaration S c .output ≡ σ
+          → Typed Γ i τ σ
 
     pub data TypedEach : Types → ℕ → Ty → Ty → Type 0 where
       i-empty : {Γ : Types} {p : ℕ} → TypedEach Γ p Ty.empty Ty.empty
       i-atom : {Γ : Types} {p : ℕ} {α σ : Ty} → Atomic α → Typed Γ p α σ → TypedEach Γ p α σ
       i-seq : {Γ : Types} {p : ℕ} {τ τ′ σ σ′ : Ty} → TypedEach Γ p τ σ → TypedEach Γ p τ′ σ′ → TypedEach Γ p (Ty.seq τ τ′) (Ty.seq σ σ′)
-      i-choice : {Γ : Types} {p : ℕ} {τ τ′ σ σ′ : Ty} → TypedEach Γ p τ σ → TypedEach Γ p τ′ σ′ → TypedEach Γ p (Ty.choice τ τ′) (Ty.choice σ σ′)
+      i-choice : {Γ : Types} {p : ℕ} {τ τ′ σ σ′ : Ty} → TypedEach Γ p τ σ → TypedEach Γ p τ′ σ′
+          → TypedEach Γ p (Ty.choice τ τ′) (Ty.choice σ σ′)
       i-star : {Γ : Types} {p : ℕ} {τ σ : Ty} → TypedEach Γ p τ σ → TypedEach Γ p (Ty.star τ) (Ty.star σ)
 
   -- ---- ⊢ Δ: a body, or main, computes a type that lies in the declared one
@@ -208,5 +226,6 @@ module _ (S : Script) where
 
   -- every procedure keeps its declaration, and main takes A into B
   pub record Accepts : Type 0 where
-    pub procedures : (c : ℕ) → 1 ≤ c → c ≤ S .procedures → Passes (declaration S c .parameters) (S .procedureRow c .body) (declaration S c .input) (declaration S c .output)
+    pub procedures : (c : ℕ) → 1 ≤ c → c ≤ S .procedures
+        → Passes (declaration S c .parameters) (S .procedureRow c .body) (declaration S c .input) (declaration S c .output)
     pub main : Passes [] (S .main) (declared S (S .a)) (declared S (S .b))

@@ -1,4 +1,5 @@
--- Trees and forests (FLUX, section 3.1), the forest at a row, and the rows of a forest in document 01's order. A text keeps its place in the pool beside its bytes.
+-- Trees and forests (FLUX, section 3.1), the forest at a row, and the rows of a forest in document 01's order. A text keeps its place in
+-- the pool beside its bytes.
 use Prim.Native.Nat.{ℕ, zero, suc, _+_}
 use mathlib.Core.Bool.{Bool, true, false, _&&_, cond}
 use mathlib.Core.List.{List, [], _∷_, _++_}

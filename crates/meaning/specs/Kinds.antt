@@ -1,4 +1,5 @@
--- What one row says: a view for each table, the kinds in document 01's order ("Tables"). Kinds past the last are `none`; Shape refuses them.
+-- What one row says: a view for each table, the kinds in document 01's order ("Tables"). Kinds past the last are `none`; Shape refuses
+-- them.
 use Prim.Native.Nat.{ℕ, zero, suc}
 use mathlib.Core.Bool.{Bool, true, false, cond}
 use mathlib.Core.List.{List, [], _∷_}

@@ -1,4 +1,5 @@
--- The listing that the program `apply` prints (document 01, "Worked on paper"): question, number (0 is done), units (none for fit); run adds the root; then each row and its four words.
+-- The listing that the program `apply` prints (document 01, "Worked on paper"): question, number (0 is done), units (none for fit); run
+-- adds the root; then each row and its four words.
 -- A refusal ends the listing with its line, without root; "load N" for 1 to 4. Lines end in a line feed.
 use Prim.Native.Nat.{ℕ, zero, suc, _+_, _*_, _/_, _%_, _≤_, _<_}
 use Prim.Native.String.{String, [] as end, _∷_ as _then_}
@@ -57,7 +58,8 @@ listing (loaded r) = line "load" (number r ∷ [])
 listing (check-ended r u) = line "check" (number r ∷ u ∷ [])
 listing (fit-ended u r) = line "check" (0 ∷ u ∷ []) ++ line "fit" (number r ∷ [])
 listing (run-ended u r v) = line "check" (0 ∷ u ∷ []) ++ line "fit" (0 ∷ []) ++ line "run" (number r ∷ v ∷ [])
-listing (all-done u v root after) = line "check" (0 ∷ u ∷ []) ++ line "fit" (0 ∷ []) ++ line "run" (0 ∷ v ∷ root ∷ []) ++ row-lines after root
+listing (all-done u v root after) = line "check" (0 ∷ u ∷ []) ++ line "fit" (0 ∷ []) ++ line "run" (0 ∷ v ∷ root ∷ [])
+    ++ row-lines after root
 
 -- what the program lends
 abbrev pub lent-work : List ℕ
@@ -70,9 +72,13 @@ lent-result = replicate (2 * row-words * program-result) 0
 pub data Tells (b : List ℕ) : Told → Type 0 where
   not-framed : framed b ≡ false → Tells b (loaded block)
   not-loaded : {r : Refusal} → framed b ≡ true → Loads (sheetIn b) (refused r) → Tells b (loaded r)
-  not-checked : {r : Refusal} {u : ℕ} → framed b ≡ true → Loads (sheetIn b) done → Checked (sheetIn b) lent-work (refused r) u → Tells b (check-ended r u)
-  not-fit : {r : Refusal} {u : ℕ} → framed b ≡ true → Checked (sheetIn b) lent-work done u → Fitted (sheetIn b) (scriptOf (sheetIn b) .a) (refused r) → Tells b (fit-ended u r)
-  not-run : {r : Refusal} {u v root : ℕ} {after : List ℕ} → framed b ≡ true → Checked (sheetIn b) lent-work done u → Fitted (sheetIn b) (scriptOf (sheetIn b) .a) done
+  not-checked : {r : Refusal} {u : ℕ} → framed b ≡ true → Loads (sheetIn b) done → Checked (sheetIn b) lent-work (refused r) u
+      → Tells b (check-ended r u)
+  not-fit : {r : Refusal} {u : ℕ} → framed b ≡ true → Checked (sheetIn b) lent-work done u
+      → Fitted (sheetIn b) (scriptOf (sheetIn b) .a) (refused r) → Tells b (fit-ended u r)
+  not-run : {r : Refusal} {u v root : ℕ} {after : List ℕ} → framed b ≡ true → Checked (sheetIn b) lent-work done u
+      → Fitted (sheetIn b) (scriptOf (sheetIn b) .a) done
       → Ran (sheetIn b) lent-work lent-result (refused r) v root after → Tells b (run-ended u r v)
-  told : {u v root : ℕ} {after : List ℕ} → framed b ≡ true → Checked (sheetIn b) lent-work done u → Fitted (sheetIn b) (scriptOf (sheetIn b) .a) done
+  told : {u v root : ℕ} {after : List ℕ} → framed b ≡ true → Checked (sheetIn b) lent-work done u
+      → Fitted (sheetIn b) (scriptOf (sheetIn b) .a) done
       → Ran (sheetIn b) lent-work lent-result done v root after → Tells b (all-done u v root after)

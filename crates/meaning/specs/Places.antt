@@ -1,4 +1,5 @@
--- Places: the atoms of a type by their rows, which of them may stand first, last and next to another, and ties (document 01, "Ties"; deterministic content models, XML 1.0, section 3.2.1).
+-- Places: the atoms of a type by their rows, which of them may stand first, last and next to another, and ties (document 01, "Ties";
+-- deterministic content models, XML 1.0, section 3.2.1).
 -- End is place 0.
 use Prim.Native.Nat.{ℕ, zero, suc, _+_, _<_, _≤_}
 use mathlib.Core.Path.{_≡_}
@@ -148,14 +149,16 @@ module _ (row : ℕ → Cells) (nameRow : ℕ → ℕ) where
 module _ (S : Script) where
   abbrev pub is-declared : ℕ → Bool
   is-declared r = eqb (S .a) r || eqb (S .b) r || some (λ x. eqb (S .nameRow x) r) (S .names)
-      || some (λ c. eqb (S .procedureRow c .first) r || eqb (S .procedureRow c .second) r || eqb (S .procedureRow c .input) r || eqb (S .procedureRow c .output) r) (S .procedures)
+      || some (λ c. eqb (S .procedureRow c .first) r || eqb (S .procedureRow c .second) r || eqb (S .procedureRow c .input) r || eqb
+      (S .procedureRow c .output) r) (S .procedures)
 
   abbrev pub is-content : ℕ → Bool
   is-content r = some (λ i. eqb (S .typeRow i .kind) 4 && eqb (S .typeRow i .q) r) (S .types)
 
   -- a and b are tied in some declared type or content
   unfoldable pub tied : ℕ → ℕ → Bool
-  tied a b = some (λ r. (is-declared r || is-content r) && rivals (S .typeRow) (S .nameRow) (S .types) (modelIn (S .typeRow) (S .nameRow) r) a b) (S .types)
+  tied a b = some (λ r. (is-declared r || is-content r) && rivals (S .typeRow) (S .nameRow) (S .types) (modelIn (S .typeRow) (S .nameRow) r)
+      a b) (S .types)
 
   -- the lowest row concerned, with its lowest rival
   pub record Tie (a b : ℕ) : Type 0 where

@@ -1,5 +1,7 @@
--- Replies: for each call the whole answer, this paper's numbers, carried values, units, and every lent byte afterwards (document 01, "Refusals by number").
--- The order of refusals stands here once: 1, 2, 3, 4, then 12, then the walk, 13 last. Apply goes through the check's order, then 10, then the run's from 12.
+-- Replies: for each call the whole answer, this paper's numbers, carried values, units, and every lent byte afterwards (document 01,
+-- "Refusals by number").
+-- The order of refusals stands here once: 1, 2, 3, 4, then 12, then the walk, 13 last. Apply goes through the check's order, then 10, then
+-- the run's from 12.
 use Prim.Native.Nat.{ℕ, zero, suc, _+_, _*_, _<_, _≤_}
 use mathlib.Core.Path.{_≡_}
 use mathlib.Core.Bool.{Bool, true, false}
@@ -98,8 +100,10 @@ pub data Checked (s work : List ℕ) : Answer → ℕ → Type 0 where
 pub data Fitted (s : List ℕ) (t : ℕ) : Answer → Type 0 where
   no-row : inTable (scriptOf s .types) t ≡ false → Fitted s t (refused shape)
   unsound : {r : Refusal} → inTable (scriptOf s .types) t ≡ true → Loads s (refused r) → Fitted s t (refused r)
-  fits : inTable (scriptOf s .types) t ≡ true → Loads s done → Of (namesIn (scriptOf s)) (declared (scriptOf s) t) (forestOf (groveOf s)) → Fitted s t done
-  misfits : inTable (scriptOf s .types) t ≡ true → Loads s done → (Of (namesIn (scriptOf s)) (declared (scriptOf s) t) (forestOf (groveOf s)) → ⊥) → Fitted s t (refused unfit)
+  fits : inTable (scriptOf s .types) t ≡ true → Loads s done → Of (namesIn (scriptOf s)) (declared (scriptOf s) t) (forestOf (groveOf s))
+      → Fitted s t done
+  misfits : inTable (scriptOf s .types) t ≡ true → Loads s done
+      → (Of (namesIn (scriptOf s)) (declared (scriptOf s) t) (forestOf (groveOf s)) → ⊥) → Fitted s t (refused unfit)
 
 -- ---- run: the edited forest
 
@@ -128,8 +132,10 @@ pub data Ran (s work result : List ℕ) : Answer → ℕ → ℕ → List ℕ �
 
 pub data Applied (s work result : List ℕ) : Answer → ℕ → ℕ → ℕ → List ℕ → Type 0 where
   unchecked : {r : Refusal} {u : ℕ} → Checked s work (refused r) u → Applied s work result (refused r) u 0 0 result
-  unfitted : {r : Refusal} {u : ℕ} → Checked s work done u → Fitted s (scriptOf s .a) (refused r) → Applied s work result (refused r) u 0 0 result
-  applied : {a : Answer} {u v root : ℕ} {after : List ℕ} → Checked s work done u → Fitted s (scriptOf s .a) done → Ran s work result a v root after → Applied s work result a u v root after
+  unfitted : {r : Refusal} {u : ℕ} → Checked s work done u → Fitted s (scriptOf s .a) (refused r)
+      → Applied s work result (refused r) u 0 0 result
+  applied : {a : Answer} {u v root : ℕ} {after : List ℕ} → Checked s work done u → Fitted s (scriptOf s .a) done
+      → Ran s work result a v root after → Applied s work result a u v root after
 
 -- ---- the whole replies: what is said, and every lent byte afterwards. Working rows are all zero after every call
 
@@ -167,7 +173,8 @@ pub record ApplyReply (s work result : List ℕ) (R : Reply) : Type 0 where
 
 -- a question about a bundle: Block before all else
 pub data OfBundle (b work result : List ℕ) (Asked : List ℕ → Reply → Type 0) : Reply → Type 0 where
-  unframed : framed b ≡ false → OfBundle b work result Asked (record { answer = refused block; checkUnits = 0; runUnits = 0; root = 0; result = result; work = zeroed work })
+  unframed : framed b ≡ false → OfBundle b work result Asked
+      (record { answer = refused block; checkUnits = 0; runUnits = 0; root = 0; result = result; work = zeroed work })
   opened : {R : Reply} → framed b ≡ true → Asked (sheetIn b) R → OfBundle b work result Asked R
 
 -- ---- the reader and the writer: functions, for they ask nothing that does not compute
@@ -186,8 +193,10 @@ copied-in b lent = record { answer = done; bytes = b ++ drop (length b) lent }
 
 -- 1, then 2, then 13
 unfoldable pub read : List ℕ → List ℕ → Copied
-read b lent = copy-if (framed b) block (copy-if (shapely (sheetIn b)) shape (copy-if (leb (need (sheetIn b)) (length lent)) room (copied-in (sheetIn b) lent) lent) lent) lent
+read b lent = copy-if (framed b) block (copy-if (shapely (sheetIn b)) shape
+    (copy-if (leb (need (sheetIn b)) (length lent)) room (copied-in (sheetIn b) lent) lent) lent) lent
 
 -- 2, then 13
 unfoldable pub write : List ℕ → List ℕ → Copied
-write s lent = copy-if (shapely s) shape (copy-if (leb (block-bytes * blocksFor (need s)) (length lent)) room (copied-in (bundleOf s) lent) lent) lent
+write s lent = copy-if (shapely s) shape (copy-if (leb (block-bytes * blocksFor (need s)) (length lent)) room (copied-in (bundleOf s) lent)
+    lent) lent

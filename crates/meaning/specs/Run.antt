@@ -1,5 +1,6 @@
 -- How a run goes (document 01; FLUX, figures 3 and 12): what each row gives, when its units fall due, and where it is stuck.
--- Every row: one level of depth, then one unit; then the focus is tested, then parts run, then their values are tested, then copies take their units.
+-- Every row: one level of depth, then one unit; then the focus is tested, then parts run, then their values are tested, then copies take
+-- their units.
 use Prim.Native.Nat.{ℕ, zero, suc, _+_}
 use mathlib.Core.Bool.{Bool, true, false, cond}
 use mathlib.Core.List.{List, [], _∷_, _++_}
@@ -153,7 +154,8 @@ arguments go [] = ret []
 arguments go (q ∷ l) = go q >>= λ x. arguments go l >>= λ y. ret (x ∷ y)
 
 -- what a statement row does, given what the statements and queries below it do, and what a call's body does
-unfoldable pub statement-of : Statement → ℕ → (Env → ℕ → Forest → Quiet Forest) → (Env → ℕ → Quiet Forest) → (ℕ → ℕ) → Env → Forest → Quiet Forest
+unfoldable pub statement-of : Statement → ℕ → (Env → ℕ → Forest → Quiet Forest) → (Env → ℕ → Quiet Forest) → (ℕ → ℕ) → Env → Forest
+    → Quiet Forest
 statement-of Statement.none i go asks body γ f = halt (stuck (of-statement i))
 statement-of Statement.skip i go asks body γ f = ret f
 statement-of (Statement.then p q) i go asks body γ f = go γ p f >>= go γ q

@@ -1,10 +1,20 @@
--- Shape: every rule and limit under "Tables" in document 01, each a test of its own, and all of them together. Refusal 2 is given exactly if one fails.
+-- Shape: every rule and limit under "Tables" in document 01, each a test of its own, and all of them together. Refusal 2 is given exactly
+-- if one fails.
 use Prim.Native.Nat.{ℕ, zero, suc, _+_, _-_}
 use mathlib.Core.Bool.{Bool, true, false, _&&_, _||_, not, cond}
 use mathlib.Core.List.{List, [], _∷_, _++_}
 use lib.Dec.{eqb, leb, ltb}
 use lib.ListN.{getD, length}
-use Rattle.meaning.specs.Limits.{most-names, most-rows, most-procedures, most-variables, last-label, most-forest-rows, most-pool, most-fuel}
+use Rattle.meaning.specs.Limits.{
+  most-names,
+  most-rows,
+  most-procedures,
+  most-variables,
+  last-label,
+  most-forest-rows,
+  most-pool,
+  most-fuel,
+}
 use Rattle.meaning.specs.Tests.{every, total, inTable}
 use Rattle.meaning.specs.Sheet.{Cells, Procedure, Script, Grove, Sheet, need, sheetOf}
 use Rattle.meaning.specs.Kinds.{Query, Statement, queryAt, statementAt, present}
@@ -56,7 +66,8 @@ queryUses c = getD
 abbrev pub argument : ℕ → Use
 argument parameter = cond (eqb parameter 0) unused query
 
--- statements: 1 skip, 2 then, 3 if, 4 insert, 5 delete, 6 rename, 7 let, 8 snapshot, 9 test, 10 children, 11 left, 12 right, 13 iter, 14 call
+-- statements: 1 skip, 2 then, 3 if, 4 insert, 5 delete, 6 rename, 7 let, 8 snapshot, 9 test, 10 children, 11 left, 12 right, 13 iter, 14
+-- call
 abbrev pub statementUses : (ℕ → Procedure) → Cells → Uses
 statementUses procedures c = getD
     (no-uses
@@ -115,20 +126,24 @@ module _ (s : Sheet) where
 
   -- each row's kind is one of the table's, and its words are as they must be
   unfoldable pub types-ok : Bool
-  types-ok = every (λ i. inTable 8 (s .script .typeRow i .kind) && wordsOk (typeUses (s .script .typeRow i)) i (s .script .typeRow i)) (s .script .types)
+  types-ok = every (λ i. inTable 8 (s .script .typeRow i .kind) && wordsOk (typeUses (s .script .typeRow i)) i (s .script .typeRow i))
+      (s .script .types)
 
   unfoldable pub queries-ok : Bool
-  queries-ok = every (λ i. inTable 13 (s .script .queryRow i .kind) && wordsOk (queryUses (s .script .queryRow i)) i (s .script .queryRow i)) (s .script .queries)
+  queries-ok = every (λ i. inTable 13 (s .script .queryRow i .kind) && wordsOk (queryUses (s .script .queryRow i)) i
+      (s .script .queryRow i)) (s .script .queries)
 
   unfoldable pub statements-ok : Bool
-  statements-ok = every (λ i. inTable 14 (s .script .statementRow i .kind) && wordsOk (statementUses (s .script .procedureRow) (s .script .statementRow i)) i (s .script .statementRow i)) (s .script .statements)
+  statements-ok = every (λ i. inTable 14 (s .script .statementRow i .kind) && wordsOk
+      (statementUses (s .script .procedureRow) (s .script .statementRow i)) i (s .script .statementRow i)) (s .script .statements)
 
   unfoldable pub rows-ok : Bool
   rows-ok = every (λ i. inTable 4 (s .grove .row i .kind) && wordsOk (forestUses (s .grove .row i)) i (s .grove .row i)) (s .grove .rows)
 
   -- each name stands for one row of kind 4
   unfoldable pub names-ok : Bool
-  names-ok = every (λ x. inTable (s .script .types) (s .script .nameRow x) && eqb (s .script .typeRow (s .script .nameRow x) .kind) 4) (s .script .names)
+  names-ok = every (λ x. inTable (s .script .types) (s .script .nameRow x) && eqb (s .script .typeRow (s .script .nameRow x) .kind) 4)
+      (s .script .names)
 
   -- a parameter's type, or 0
   abbrev pub parameter-ok : ℕ → Bool
@@ -185,7 +200,8 @@ hit r w = cond (eqb w r) 1 0
 
 -- how many words of a row, among those of a use, are the row r
 abbrev pub hits : (Use → Bool) → ℕ → Uses → Cells → ℕ
-hits which r u c = cond (which (u .p) && eqb (c .p) r) 1 0 + cond (which (u .q) && eqb (c .q) r) 1 0 + cond (which (u .r) && eqb (c .r) r) 1 0
+hits which r u c = cond (which (u .p) && eqb (c .p) r) 1 0 + cond (which (u .q) && eqb (c .q) r) 1 0 + cond (which (u .r) && eqb (c .r) r)
+    1 0
 
 module _ (s : Sheet) where
   abbrev pub procedure-hits : ℕ → Procedure → ℕ
@@ -199,10 +215,12 @@ module _ (s : Sheet) where
 
   unfoldable pub query-users : ℕ → ℕ
   query-users r = total (λ i. hits own r (queryUses (s .script .queryRow i)) (s .script .queryRow i)) (s .script .queries)
-      + total (λ i. hits asking r (statementUses (s .script .procedureRow) (s .script .statementRow i)) (s .script .statementRow i)) (s .script .statements)
+      + total (λ i. hits asking r (statementUses (s .script .procedureRow) (s .script .statementRow i)) (s .script .statementRow i))
+      (s .script .statements)
 
   unfoldable pub statement-users : ℕ → ℕ
-  statement-users r = total (λ i. hits own r (statementUses (s .script .procedureRow) (s .script .statementRow i)) (s .script .statementRow i)) (s .script .statements)
+  statement-users r = total (λ i. hits own r (statementUses (s .script .procedureRow) (s .script .statementRow i))
+      (s .script .statementRow i)) (s .script .statements)
       + total (λ c. hit r (s .script .procedureRow c .body)) (s .script .procedures)
       + hit r (s .script .main)
 
@@ -288,12 +306,14 @@ module _ (S : Script) where
   -- main has no variables; a body sees its parameters only
   unfoldable pub scope-ok : Bool
   scope-ok = statement-scoped (S .statements) [] (S .main)
-      && every (λ c. statement-scoped (S .statements) (parameters-scope (present (S .procedureRow c .first) (S .procedureRow c .second))) (S .procedureRow c .body)) (S .procedures)
+      && every (λ c. statement-scoped (S .statements) (parameters-scope (present (S .procedureRow c .first) (S .procedureRow c .second)))
+      (S .procedureRow c .body)) (S .procedures)
 
 -- ---- all of it
 
 abbrev pub shaped : Sheet → Bool
-shaped s = limits-ok s && types-ok s && queries-ok s && statements-ok s && rows-ok s && names-ok s && procedures-ok s && roots-ok s && users-ok s && scope-ok (s .script)
+shaped s = limits-ok s && types-ok s && queries-ok s && statements-ok s && rows-ok s && names-ok s && procedures-ok s && roots-ok s &&
+    users-ok s && scope-ok (s .script)
 
 -- a slice shorter than its counts ask is Shape too
 abbrev pub whole : List ℕ → Bool

@@ -1,4 +1,5 @@
--- A sheet: the set of tables, lent as one slice of bytes. Thirteen header words, then the tables, then the pool (document 01, "Bundles" gives the order; "Tables" the rows).
+-- A sheet: the set of tables, lent as one slice of bytes. Thirteen header words, then the tables, then the pool (document 01, "Bundles"
+-- gives the order; "Tables" the rows).
 use Prim.Native.Nat.{ℕ, zero, suc, _+_, _*_, _-_}
 use mathlib.Core.Bool.{Bool, true, false, cond}
 use mathlib.Core.List.{List, [], _∷_}

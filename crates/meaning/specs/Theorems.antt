@@ -1,4 +1,5 @@
--- The theorems: walks and figures, replies and figures, soundness, steadiness, one result, and one for every input, wrong programs refuted, round trips, and the worked examples.
+-- The theorems: walks and figures, replies and figures, soundness, steadiness, one result, and one for every input, wrong programs refuted,
+-- round trips, and the worked examples.
 pub mod Worked
 pub mod ExactCheck
 pub mod Single

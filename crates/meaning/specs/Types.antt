@@ -1,4 +1,5 @@
--- Types with names, and what is of a type: FLUX, section 3.1, the least fixed point as an inductive family. Atoms, heads, and the size of a type written out.
+-- Types with names, and what is of a type: FLUX, section 3.1, the least fixed point as an inductive family. Atoms, heads, and the size of a
+-- type written out.
 use Prim.Native.Nat.{ℕ, zero, suc, _+_}
 use mathlib.Core.Bool.{Bool, true, false}
 use mathlib.Core.List.{List, [], _∷_}

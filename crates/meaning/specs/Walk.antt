@@ -1,4 +1,5 @@
--- A walk: what a run or a check does, row by row, before any purse is looked at. Units fall due (`tick`), questions are asked (`ask`), and a rule may stop it (`halt`).
+-- A walk: what a run or a check does, row by row, before any purse is looked at. Units fall due (`tick`), questions are asked (`ask`), and
+-- a rule may stop it (`halt`).
 -- A purse is laid over it once, here, for run and check alike: `Settles`. Nothing but an empty purse can say Fuel.
 use Prim.Native.Nat.{ℕ, zero, suc}
 use mathlib.Core.Path.{_≡_}

@@ -1,4 +1,5 @@
--- Words: 16 bits, low byte first, in lists of bytes. Lent slices counted in rows (document 01, "Tables": "a lent slice counts whole rows only, and at most 65,535").
+-- Words: 16 bits, low byte first, in lists of bytes. Lent slices counted in rows (document 01, "Tables": "a lent slice counts whole rows
+-- only, and at most 65,535").
 use Prim.Native.Nat.{ℕ, zero, suc, _+_, _*_, _/_, _%_, min}
 use mathlib.Core.List.{List, [], _∷_, _++_}
 use lib.ListN.{getD, length, replicate}

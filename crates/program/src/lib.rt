@@ -1,5 +1,9 @@
-// The programs, whole, each with the exit status that it is to end with: 2 where reading or writing failed, or a word is no number, which a line on standard error says. A Rattle `main` cannot end with one: a C `main` can (tools/program).
-use fields::Rows;
+// The programs, whole, each with the exit status that it is to end with: 2 where reading or writing failed, or a word is no number,
+// which a line on standard error says. A Rattle `main` cannot end with one: a C `main` can (tools/program).
+pub mod fields;
+pub mod tell;
+
+use crate::fields::Rows;
 ghost use mathlib.Core.Path.{_≡_};
 ghost use Prim.Native.Nat.{_<_};
 ghost use lib.ListN.{length};
@@ -29,7 +33,7 @@ pub extern "C" fn chukelowa_program_apply() -> i32 {
     let mut input = [0u8; 45057];
     let n = io::read_full(0, &mut input);
     if n < 45057 {
-        if !fields::ended(0) {
+        if !crate::fields::ended(0) {
             os::fail(b"apply: standard input");
             return 2;
         }
@@ -38,26 +42,30 @@ pub extern "C" fn chukelowa_program_apply() -> i32 {
 }
 
 fn answers_usage() -> i32 {
-    fields::usage(b"answers [WORK RESULT]");
+    crate::fields::usage(b"answers [WORK RESULT]");
     2
 }
 
 // `answers`: the answers to the bundle on standard input, with so many rows lent.
 fn answers(work: usize, result: usize) -> i32 {
-    fields::begin();
-    if !tell::answers(0, work, result) {
+    crate::fields::begin();
+    if !crate::tell::answers(0, work, result) {
         os::fail(b"answers: standard input");
         return 2;
     }
-    if fields::failed(b"answers: standard output") { 2 } else { 0 }
+    if crate::fields::failed(b"answers: standard output") {
+        2
+    } else {
+        0
+    }
 }
 
 #[no_mangle]
 pub extern "C" fn chukelowa_program_answers() -> i32 {
-    let Rows::Lent(work) = fields::rows_argument(1, 6144) else {
+    let Rows::Lent(work) = crate::fields::rows_argument(1, 6144) else {
         return answers_usage();
     };
-    let Rows::Lent(result) = fields::rows_argument(2, 8192) else {
+    let Rows::Lent(result) = crate::fields::rows_argument(2, 8192) else {
         return answers_usage();
     };
     answers(work, result)
@@ -69,7 +77,7 @@ fn file(path: &[u8], work: usize, result: usize) -> bool {
     if fd < 0 {
         return false;
     }
-    let read = tell::answers(fd, work, result);
+    let read = crate::tell::answers(fd, work, result);
     libc::close(fd);
     read
 }
@@ -79,18 +87,18 @@ fn one(name: usize, work: usize, result: usize) -> bool {
     let mut path = io::buffer();
     let n = os::arg(name, &mut path);
     io::write_all(1, &path[..n]);
-    fields::field(work);
-    fields::field(result);
+    crate::fields::field(work);
+    crate::fields::field(result);
     io::write_all(1, b"\n");
     if !file(&path[..n], work, result) {
         os::fail(&path[..n]);
         return false;
     }
-    !fields::failed(b"cases: standard output")
+    !crate::fields::failed(b"cases: standard output")
 }
 
 fn cases_usage() -> bool {
-    fields::usage(b"cases [BUNDLE WORK RESULT]..");
+    crate::fields::usage(b"cases [BUNDLE WORK RESULT]..");
     false
 }
 
@@ -98,10 +106,10 @@ fn cases_usage() -> bool {
 fn words(at: usize) -> bool
     requires { ⌜ at < 18446744073709551614 ⌝ }
 {
-    let Rows::Lent(work) = fields::rows_argument(at + 1, 6144) else {
+    let Rows::Lent(work) = crate::fields::rows_argument(at + 1, 6144) else {
         return cases_usage();
     };
-    let Rows::Lent(result) = fields::rows_argument(at + 2, 8192) else {
+    let Rows::Lent(result) = crate::fields::rows_argument(at + 2, 8192) else {
         return cases_usage();
     };
     one(at, work, result)

@@ -10,7 +10,7 @@ use Rattle.meaning.specs.Shape.{limits-ok, types-ok, queries-ok, statements-ok,
 use Rattle.meaning.specs.Laws.Bools.{and-left, and-right}
 use Rattle.sheet.specs.Laid.{Laid}
 use Rattle.sheet.specs.declared.Layout.{Layout}
-use Rattle.hands.specs.Scopes.{Before}
+use Rattle.shape_scope.specs.Scopes.{Before}
 use Rattle.shape.specs.Tables.{tables-ok, name-ok, paired}
 
 module _ {s : List ℕ} {l : Layout} (L : Laid s l) where

@@ -1,5 +1,5 @@
 // Shape, refusal 2: every rule and limit under "Tables" in document 01, without recursion and in time linear in the rows.
-use kinds::in_table;
+use shape_kinds::in_table;
 use sheet::Layout;
 use sheet::Procedure;
 ghost use mathlib.Core.Path.{_≡_};
@@ -138,16 +138,16 @@ fn tables_ok(s: &[u8], l: Layout) -> bool
     if !limits_ok(l) {
         return false;
     }
-    if !kinds::types_ok(s, l) {
+    if !shape_kinds::types_ok(s, l) {
         return false;
     }
-    if !kinds::queries_ok(s, l) {
+    if !shape_kinds::queries_ok(s, l) {
         return false;
     }
-    if !kinds::statements_ok(s, l) {
+    if !shape_kinds::statements_ok(s, l) {
         return false;
     }
-    if !kinds::rows_ok(s, l) {
+    if !shape_kinds::rows_ok(s, l) {
         return false;
     }
     if !names_ok(s, l) {
@@ -159,7 +159,7 @@ fn tables_ok(s: &[u8], l: Layout) -> bool
     if !roots_ok(l) {
         return false;
     }
-    users::users_ok(s, l)
+    shape_users::users_ok(s, l)
 }
 
 // Whether the sheet is as "Tables" asks, and as long as its counts ask.
@@ -174,5 +174,5 @@ pub fn shapely(s: &[u8]) -> bool
     if !tables_ok(s, l) {
         return false;
     }
-    scope::scope_ok(s, l)
+    shape_scope::scope_ok(s, l)
 }

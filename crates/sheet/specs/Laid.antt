@@ -9,7 +9,29 @@ use lib.Dec.{leb}
 use lib.ListN.{length}
 use Rattle.meaning.specs.Tests.{inTable}
 use Rattle.meaning.specs.Words.{wordAt}
-use Rattle.meaning.specs.Sheet.{Cells, names-of, types-of, queries-of, statements-of, procedures-of, rows-of, pool-of, types-at, queries-at, statements-at, procedures-at, rows-at, pool-at, blank, no-procedure, row3, row4, row5, scriptOf, groveOf}
+use Rattle.meaning.specs.Sheet.{
+  Cells,
+  names-of,
+  types-of,
+  queries-of,
+  statements-of,
+  procedures-of,
+  rows-of,
+  pool-of,
+  types-at,
+  queries-at,
+  statements-at,
+  procedures-at,
+  rows-at,
+  pool-at,
+  blank,
+  no-procedure,
+  row3,
+  row4,
+  row5,
+  scriptOf,
+  groveOf,
+}
 use Rattle.meaning.specs.Sheet as meaning
 use Rattle.sheet.specs.Whole.{Whole, Lies}
 use Rattle.sheet.specs.declared.Row.{Row}

@@ -1,4 +1,5 @@
-// A lent sheet: its header, where each table begins, and one row of each table as a small struct. What is no row of its table reads as zeros, so nobody above asks about bounds.
+// A lent sheet: its header, where each table begins, and one row of each table as a small struct. What is no row of its table reads as
+// zeros, so nobody above asks about bounds.
 // A row is read of a sheet that is whole, so no word is tested for the end of the bytes.
 use words::word_at;
 use words::word_in;

@@ -88,8 +88,11 @@ module _ (s : List ℕ) (d : ℕ) (e : Scope) where
   pub fits-let : (p q : ℕ) → fits-row s d e (Query.letin p q) ≡ true → (fits s d e p ≡ true) × (has-place (shapeOf e) ≡ true) × (go (shapeOf e ++ a-forest ∷ []) q ≡ true)
   unfolding query-scope
   fits-let p q h =
-      let pq = and-left (fits s d e p && has-place (shapeOf e)) (go (shapeOf e ++ a-forest ∷ []) q) h in
-      (and-left (fits s d e p) (has-place (shapeOf e)) pq, and-right (fits s d e p) (has-place (shapeOf e)) pq, and-right (fits s d e p && has-place (shapeOf e)) (go (shapeOf e ++ a-forest ∷ []) q) h)
+      let pq = and-left (fits s d e p && has-place (shapeOf e)) (go (shapeOf e ++ a-forest ∷ []) q) h in (
+        and-left (fits s d e p) (has-place (shapeOf e)) pq,
+        and-right (fits s d e p) (has-place (shapeOf e)) pq,
+        and-right (fits s d e p && has-place (shapeOf e)) (go (shapeOf e ++ a-forest ∷ []) q) h,
+      )
 
   pub fits-for : (p q : ℕ) → fits-row s d e (Query.for p q) ≡ true → (fits s d e p ≡ true) × (fits-body s d e q ≡ true)
   unfolding query-scope
@@ -117,7 +120,8 @@ ten-up h a b c d e = omega arith
 last-up : {k : ℕ} → 10 ≤ k → (k ≡ 10 → ⊥) → (k ≡ 11 → ⊥) → (k ≡ 12 → ⊥) → (k ≡ 13 → ⊥) → 14 ≤ k
 last-up h a b c d = omega arith
 
-pub fourteen-up : {k : ℕ} → (k ≡ 0 → ⊥) → (k ≡ 1 → ⊥) → (k ≡ 2 → ⊥) → (k ≡ 3 → ⊥) → (k ≡ 4 → ⊥) → (k ≡ 5 → ⊥) → (k ≡ 6 → ⊥) → (k ≡ 7 → ⊥) → (k ≡ 8 → ⊥) → (k ≡ 9 → ⊥) → (k ≡ 10 → ⊥) → (k ≡ 11 → ⊥) → (k ≡ 12 → ⊥) → (k ≡ 13 → ⊥) → 14 ≤ k
+pub fourteen-up : {k : ℕ} → (k ≡ 0 → ⊥) → (k ≡ 1 → ⊥) → (k ≡ 2 → ⊥) → (k ≡ 3 → ⊥) → (k ≡ 4 → ⊥) → (k ≡ 5 → ⊥) → (k ≡ 6 → ⊥) → (k ≡ 7 → ⊥) → (k ≡ 8 → ⊥) → (k ≡ 9 → ⊥) → (k ≡ 10 → ⊥) → (k ≡ 11 → ⊥)
+    → (k ≡ 12 → ⊥) → (k ≡ 13 → ⊥) → 14 ≤ k
 fourteen-up a b c d e f g h i j k l m n = last-up (ten-up (five-up a b c d e) f g h i j) k l m n
 
 module _ (s : List ℕ) (at : ℕ) (c : Cells) (is : c ≡ scriptOf s .queryRow at) where

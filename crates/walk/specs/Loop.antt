@@ -73,7 +73,8 @@ unfolding loopOf each gathered _>>=_
 loop-onto body nil links = ap (λ (f : Forest). ret f) (sym (⊕-nil (gathered links)))
 loop-onto body (cons t f) links =
     ap tick (then-assoc (body (only t)) (keepOf links) (loopOf body f)
-    ∙ then-same (body (only t)) (λ x. keepOf links x >>= loopOf body f) (λ x. pay (count x) (each body f >>= λ y. ret (x ⊕ y)) >>= λ y. ret (gathered links ⊕ y)) (λ x. onto-turn body f links x (loop-onto body f))
+    ∙ then-same (body (only t)) (λ x. keepOf links x >>= loopOf body f) (λ x. pay (count x) (each body f >>= λ y. ret (x ⊕ y)) >>= λ y. ret (gathered links ⊕ y))
+    (λ x. onto-turn body f links x (loop-onto body f))
     ∙ sym (then-assoc (body (only t)) (λ x. pay (count x) (each body f >>= λ y. ret (x ⊕ y))) (λ y. ret (gathered links ⊕ y))))
 
 -- the loop is meaning's

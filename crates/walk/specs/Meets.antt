@@ -106,7 +106,8 @@ module _ {w : Quiet Forest} {byte : ℕ → ℕ} {left used : ℕ} {old new : Li
   met-as e m = subst (λ (x : Quiet Forest). Meets x byte left used old new a) (sym e) m
 
 -- and back
-pub met-of : {w : Quiet Forest} {byte : ℕ → ℕ} {left used : ℕ} {old new : List ℕ} {root used' left' : ℕ} → Finished w byte left used old new root used' left' → Meets w byte left used old new (Done root used' (record { left = left' }))
+pub met-of : {w : Quiet Forest} {byte : ℕ → ℕ} {left used : ℕ} {old new : List ℕ} {root used' left' : ℕ} → Finished w byte left used old new root used' left'
+    → Meets w byte left used old new (Done root used' (record { left = left' }))
 met-of f = record { by = f }
 
 pub met-stop : {w : Quiet Forest} {byte : ℕ → ℕ} {left used : ℕ} {old new : List ℕ} {why : Stop} → Stopped w left why → Meets w byte left used old new (Not why)
@@ -166,7 +167,8 @@ spare-of : (w : Quiet Forest) (byte : ℕ → ℕ) (left left' used : ℕ) (old 
 spare-of w byte left left' used old new (Done root n p) e m = omega (arith, m .paid)
 spare-of w byte left left' used old new (Not why) e m = tt
 
-pub ran-tick : {w : Quiet Forest} {byte : ℕ → ℕ} {left' used : ℕ} {old new : List ℕ} {a : Answer} (left : ℕ) → left' + 1 ≡ left → Meets w byte left' used old new a → Ran (tick w) byte left used old new a
+pub ran-tick : {w : Quiet Forest} {byte : ℕ → ℕ} {left' used : ℕ} {old new : List ℕ} {a : Answer} (left : ℕ) → left' + 1 ≡ left → Meets w byte left' used old new a
+    → Ran (tick w) byte left used old new a
 ran-tick {w} {byte} {left'} {used} {old} {new} {a} left e m = record {
   met = met-leads (leads-tick Unasked w left left' e) (omega arith) (omega arith) (λ r i j. refl) m;
   spare = spare-of w byte left left' used old new a e (m .by);
@@ -196,14 +198,16 @@ met-nil {byte} {s} {used} left low = subst (λ (f : Forest). Finished (ret f) by
 
 -- ---- what the next evaluator asks
 
-pub roomy-after : {w : Quiet Forest} {byte : ℕ → ℕ} {s t : List ℕ} {used left root used' left' : ℕ} → Roomy s used left → length t ≡ length s → Finished w byte left used s t root used' left' → Roomy t used' left'
+pub roomy-after : {w : Quiet Forest} {byte : ℕ → ℕ} {s t : List ℕ} {used left root used' left' : ℕ} → Roomy s used left → length t ≡ length s → Finished w byte left used s t root used' left'
+    → Roomy t used' left'
 roomy-after r e f = record { low = f .low; room = omega (arith, r .room, f .paid); small = omega (arith, r .small, f .paid) }
 
 pub roomy-less : {s : List ℕ} {used left : ℕ} (left' n : ℕ) → Roomy s used left → left' + n ≡ left → Roomy s used left'
 roomy-less left' n r e = record { low = r .low; room = omega (arith, r .room); small = omega (arith, r .small) }
 
 -- from where an evaluator left off, on a focus that is in use
-pub ready-after : {w : Quiet Forest} {byte : ℕ → ℕ} {s t : List ℕ} {e : Scope} {used focus left root used' left' : ℕ} (focus' : ℕ) → Ready s e used focus left → length t ≡ length s → Finished w byte left used s t root used' left' → focus' ≤ used' → Ready t e used' focus' left'
+pub ready-after : {w : Quiet Forest} {byte : ℕ → ℕ} {s t : List ℕ} {e : Scope} {used focus left root used' left' : ℕ} (focus' : ℕ) → Ready s e used focus left → length t ≡ length s
+    → Finished w byte left used s t root used' left' → focus' ≤ used' → Ready t e used' focus' left'
 ready-after {used' = used'} focus' r e f h = record { roomy = roomy-after (r .roomy) e f; scoped = scoped-more used' (f .grown) (r .scoped); focus = h }
 
 -- with units paid, on another focus

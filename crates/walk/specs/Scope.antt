@@ -76,7 +76,12 @@ scoped-more {n} {e} m h s = record { sixteen = s .sixteen; few = s .few; within 
 
 -- the scope with a place more
 pub scoped-with : {n k v : ℕ} {e e' : Scope} → Scoped n e → e .count < 16 → v ≤ n → More e e' k v → Scoped n e'
-scoped-with {n} {k} {v} {e} {e'} s h i m = record { sixteen = m .sixteen; few = omega (arith, m .count); within = rw (m .live) (within-last n (live e) (record { kind = k; value = v }) i (s .within)) }
+scoped-with {n} {k} {v} {e} {e'} s h i m = record {
+  sixteen = m .sixteen;
+  few = omega (arith, m .count);
+  within =
+      rw (m .live) (within-last n (live e) (record { kind = k; value = v }) i (s .within));
+}
 
 pub scoped-fresh : {e : Scope} (n : ℕ) → Fresh e → Scoped n e
 unfolding Within
@@ -130,7 +135,12 @@ module _ (byte : ℕ → ℕ) where
 
 -- the array after a store
 pub more-of : {e : Scope} (k v : ℕ) → e .count < 16 → length (e .places) ≡ 16 → More e (record { places = set (e .places) (e .count) (record { kind = k; value = v }); count = e .count + 1 }) k v
-more-of {e} k v h f = record { live = rw add-one (take-suc-set (e .places) (e .count) (record { kind = k; value = v }) (omega arith)); count = refl; sixteen = length-set (e .places) (e .count) (record { kind = k; value = v }) ∙ f }
+more-of {e} k v h f = record {
+  live = rw add-one (take-suc-set (e .places) (e .count) (record { kind = k; value = v }) (omega arith));
+  count = refl;
+  sixteen =
+      length-set (e .places) (e .count) (record { kind = k; value = v }) ∙ f;
+}
 
 -- a variable past the places in use, and one in use
 pub value-none : (e : Scope) (v : ℕ) → e .count ≤ 16 → length (e .places) ≡ 16 → e .count ≤ v → 0 ≡ valueOf e v

@@ -6,10 +6,10 @@ use mathlib.Core.List.{List, [], _∷_}
 use lib.ListN.{getD}
 use Rattle.meaning.specs.Sheet.{scriptOf}
 use Rattle.meaning.specs.Types.{Ty, Within, size, declared, namesIn}
-use Rattle.grown.specs.Grown.{typeIn, tyIn, Grows}
-use Rattle.written.specs.Writing.{Written}
-use Rattle.inrow.specs.Matched.{Standing}
-use Rattle.inrow.specs.Lies.{Lies}
+use Rattle.type_rows.specs.Grown.{typeIn, tyIn, Grows}
+use Rattle.type_rows.specs.Writing.{Written}
+use Rattle.within.specs.Matched.{Standing}
+use Rattle.within.specs.Lies.{Lies}
 use Rattle.within.specs.declared.Judgement.{Judgement}
 use Rattle.within.specs.declared.Judgement.the-variants.{Wide, Holds, Fails}
 

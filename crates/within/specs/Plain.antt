@@ -14,8 +14,8 @@ use Rattle.meaning.specs.Reply.{done, Loads, sound}
 use Rattle.meaning.specs.Laws.Words.{zeros}
 use Rattle.meaning.specs.Laws.Apart.{Low, Lower, View, v-none, v-empty, v-text, v-bool, v-label, v-seq, v-choice, v-star, v-name, view, tyAt-row}
 use Rattle.meaning.specs.Laws.Barren.{Over, over-rows}
-use Rattle.grown.specs.Grown.{typeIn, tyIn, Grows}
-use Rattle.written.specs.Writing.{ownRow, Written, Blank}
+use Rattle.type_rows.specs.Grown.{typeIn, tyIn, Grows}
+use Rattle.type_rows.specs.Writing.{ownRow, Written, Blank}
 use Rattle.within.specs.declared.Judgement.the-variants.{Holds, Fails}
 use Rattle.within.specs.Answers.{Answers, plainTy}
 use Rattle.within.specs.Sums.{both, alike, one, sumOf, sum-few, plainSum, plain-sum}

@@ -20,13 +20,34 @@ use Rattle.meaning.specs.Reply.{done, Loads}
 use Rattle.meaning.specs.Laws.Bools.{not-both, either}
 use Rattle.meaning.specs.Laws.Tests.{in-table, table-low, table-high, total-at, total-both}
 use Rattle.meaning.specs.Laws.Shaped.{Part, few-types, one-user, label-row, seq-row, choice-row, star-row}
-use Rattle.meaning.specs.Laws.Apart.{Side, Distinct, View, v-none, v-empty, v-text, v-bool, v-label, v-seq, v-choice, v-star, v-name, view, type-hits, hit-one, side-hit, tyAt-row, tyAt-same, shaped-lower, shaped-once}
+use Rattle.meaning.specs.Laws.Apart.{
+  Side,
+  Distinct,
+  View,
+  v-none,
+  v-empty,
+  v-text,
+  v-bool,
+  v-label,
+  v-seq,
+  v-choice,
+  v-star,
+  v-name,
+  view,
+  type-hits,
+  hit-one,
+  side-hit,
+  tyAt-row,
+  tyAt-same,
+  shaped-lower,
+  shaped-once,
+}
 use Rattle.meaning.specs.Theorems.Places.{places-say}
 use Rattle.meaning.specs.Theorems.Sound.Written.{loads-shapely}
 use Rattle.bits.specs.Sets.{inSet}
-use Rattle.points.specs.Points.{SheetPoints}
-use Rattle.grown.specs.Grown.{typeIn, formIn, tyIn, Grows, in-sheet, grown-row}
-use Rattle.written.specs.Writing.{ownRow, Written, Blank}
+use Rattle.type_tables.specs.Points.{SheetPoints}
+use Rattle.type_rows.specs.Grown.{typeIn, formIn, tyIn, Grows, in-sheet, grown-row}
+use Rattle.type_rows.specs.Writing.{ownRow, Written, Blank}
 use Rattle.within.specs.Answers.{Answers}
 use Rattle.within.specs.Plain.{ownType}
 use Rattle.within.specs.declared.Judgement.the-variants.{Holds, Fails}
@@ -82,7 +103,12 @@ module _ (s : List ℕ) (e : shapely s ≡ true) where
       one j p h = omega (arith, le-mul-of-pos-right (rows j) h, total-at (adds i) m j (p .low) (omega (arith, p .lower)))
 
       both : (p q : ℕ) → Part i p × Part i q → 1 ≤ uses p i → 1 ≤ uses q i → (p ≡ q → ⊥) → rows p + rows q ≤ total (adds i) m
-      both p q x g h d = omega (arith, le-mul-of-pos-right (rows p) g, le-mul-of-pos-right (rows q) h, total-both (adds i) m p q (x .0 .low) (omega (arith, x .0 .lower)) (x .1 .low) (omega (arith, x .1 .lower)) d)
+      both p q x g h d = omega (
+        arith,
+        le-mul-of-pos-right (rows p) g,
+        le-mul-of-pos-right (rows q) h,
+        total-both (adds i) m p q (x .0 .low) (omega (arith, x .0 .lower)) (x .1 .low) (omega (arith, x .1 .lower)) d,
+      )
 
       go : {t : TypeRow} → View (row i) t → Distinct t → size (tyForm t (declared (scriptOf s))) ≤ suc (total (adds i) m)
       go v-none d = omega arith
@@ -91,7 +117,10 @@ module _ (s : List ℕ) (e : shapely s ≡ true) where
       go (v-bool k) d = omega arith
       go (v-label k) d = omega (arith, one (row i .q) (label-row s e i k .1) (rw k (omega (arith, hit-one (row i .q) (row i .q) refl))))
       go (v-seq k) d = let x = seq-row s e i k in omega (arith, both (row i .p) (row i .q) x (side-hit (row i) _ (v-seq k) _ (inl refl)) (side-hit (row i) _ (v-seq k) _ (inr refl)) (d (x .0 .low)))
-      go (v-choice k) d = let x = choice-row s e i k in omega (arith, both (row i .p) (row i .q) x (side-hit (row i) _ (v-choice k) _ (inl refl)) (side-hit (row i) _ (v-choice k) _ (inr refl)) (d (x .0 .low)))
+      go (v-choice k) d = let x = choice-row s e i k in omega (
+        arith,
+        both (row i .p) (row i .q) x (side-hit (row i) _ (v-choice k) _ (inl refl)) (side-hit (row i) _ (v-choice k) _ (inr refl)) (d (x .0 .low)),
+      )
       go (v-star k) d = omega (arith, one (row i .p) (star-row s e i k) (side-hit (row i) _ (v-star k) _ refl))
       go (v-name k) d = omega arith
 
@@ -135,7 +164,8 @@ empty-of names τ = (λ h. h nil of-empty, λ h f x. go x h)
     go of-empty h = h
 
 -- () lies in it exactly if End stands where it begins
-pub empty-in : {s first behind : List ℕ} → shapely s ≡ true → SheetPoints s first behind → (w : ℕ) → inTable (scriptOf s .types) w ≡ true → inSet first w 0 ≡ true ↔ Within (namesIn (scriptOf s)) Ty.empty (declared (scriptOf s) w)
+pub empty-in : {s first behind : List ℕ} → shapely s ≡ true → SheetPoints s first behind → (w : ℕ) → inTable (scriptOf s .types) w ≡ true
+    → inSet first w 0 ≡ true ↔ Within (namesIn (scriptOf s)) Ty.empty (declared (scriptOf s) w)
 unfolding Admits
 empty-in {s} e P w h = let z = P .begins w h 0 in let x = places-say s e w nil in let y = empty-of (namesIn (scriptOf s)) (declared (scriptOf s) w) in
     ((λ i. y .1 (x .0 (sym z ∙ i))), λ i. z ∙ x .1 (y .0 i))
@@ -180,7 +210,8 @@ pub record SameAbove (own other : List ℕ) (r : ℕ) : Type 0 where
 pub above-none : (own other : List ℕ) (r i : ℕ) → ((k : ℕ) → 6 * r ≤ k → k < i → getD own k 0 ≡ getD other k 0) → 3072 ≤ i → SameAbove own other r
 above-none own other r i h l = record { at = λ k a b. h k a (omega arith) }
 
-pub above-more : (own other : List ℕ) (r i : ℕ) → ((k : ℕ) → 6 * r ≤ k → k < i → getD own k 0 ≡ getD other k 0) → getD own i 0 ≡ getD other i 0 → (k : ℕ) → 6 * r ≤ k → k < i + 1 → getD own k 0 ≡ getD other k 0
+pub above-more : (own other : List ℕ) (r i : ℕ) → ((k : ℕ) → 6 * r ≤ k → k < i → getD own k 0 ≡ getD other k 0) → getD own i 0 ≡ getD other i 0 → (k : ℕ) → 6 * r ≤ k → k < i + 1
+    → getD own k 0 ≡ getD other k 0
 above-more own other r i h e k a b = elim (ℕ-discrete k i) [ yes z ↦ rw z e | no z ↦ h k a (omega arith) ]
 
 module _ {own other : List ℕ} {r : ℕ} (B : Blank own r) (C : Blank other r) (S : SameAbove own other r) where
@@ -206,7 +237,8 @@ module _ {own other : List ℕ} {r : ℕ} (B : Blank own r) (C : Blank other r) 
   own-same = ap (λ (f : ℕ → TypeRow). tyAt f 512) (fun-ext form-same)
 
 -- so it lies in it
-pub lies-alike : {s work : List ℕ} {n found : ℕ} {own : List ℕ} → Grows s work n → (w : ℕ) → inTable (scriptOf s .types) w ≡ true → Written (typeIn s work n) found own → size (tyIn s work n found) ≤ 512
+pub lies-alike : {s work : List ℕ} {n found : ℕ} {own : List ℕ} → Grows s work n → (w : ℕ) → inTable (scriptOf s .types) w ≡ true → Written (typeIn s work n) found own
+    → size (tyIn s work n found) ≤ 512
     → ownType own 512 ≡ tyIn s work n w → Answers s (tyIn s work n found) (declared (scriptOf s) w) Holds
 lies-alike {s} {work} {n} {found} G w asked W few e =
     let one : tyIn s work n found ≡ declared (scriptOf s) w = sym (W .same) ∙ e ∙ declared-is G w (table-high (scriptOf s .types) w asked) in

@@ -1,4 +1,5 @@
--- The sum of a forest, where trees of kind k are wanted: such a tree counts 1, any other tree 2, and 2 is as far as it counts. So the forests of () are those of sum 0, and the forests of text and bool, each for its own kind, those of sum 1.
+-- The sum of a forest, where trees of kind k are wanted: such a tree counts 1, any other tree 2, and 2 is as far as it counts. So the forests of () are those of sum 0, and the forests of text and
+-- bool, each for its own kind, those of sum 1.
 -- The sum of a type is that of its forests where they all have one, and else 2. It goes by the sums of the parts: over names that are not barren each part has a forest.
 use Prim.Native.Nat.{ℕ, zero, suc, _+_, _≤_, min, max}
 use mathlib.Core.Path.{_≡_, refl, sym, _∙_}

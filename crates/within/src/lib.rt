@@ -1,4 +1,13 @@
-// Inclusion of types, exact: the found type is written out. In (), text and bool the sums of its rows settle it; in a declared type or a content, the pairs of places that one tree can reach.
+// Inclusion of types, exact: the found type is written out. In (), text and bool the sums of its rows settle it; in a declared type or
+// a content, the pairs of places that one tree can reach.
+pub mod row;
+
+use bits::Flags;
+use bits::ROWS;
+use bits::Sets;
+use bits::WORDS;
+use type_heads::Leads;
+use type_heads::kin::Kin;
 ghost use mathlib.Core.Path.{_≡_};
 ghost use mathlib.Core.Bool.{true};
 ghost use Prim.Native.Nat.{ℕ, _+_, _≤_, _<_};
@@ -8,10 +17,10 @@ ghost use Rattle.meaning.specs.Types.{declared as declaredTy};
 ghost use Rattle.meaning.specs.Reply.{done, Loads};
 ghost use Rattle.meaning.specs.Laws.Apart.{Lower};
 ghost use Rattle.sheet.specs.Whole.{Whole, Lies};
-ghost use Rattle.roots.specs.Roots.{isRoot};
-ghost use Rattle.tables.specs.Lent.{Lent};
-ghost use Rattle.grown.specs.Grown.{tyIn, Grows};
-ghost use Rattle.written.specs.Writing.{ownRow, Blank};
+ghost use Rattle.type_models.specs.Roots.{isRoot};
+ghost use Rattle.type_tables.specs.Lent.{Lent};
+ghost use Rattle.type_rows.specs.Grown.{tyIn, Grows};
+ghost use Rattle.type_rows.specs.Writing.{ownRow, Blank};
 ghost use Rattle.within.specs.Answers.{Answers, plainTy};
 ghost use Rattle.within.specs.Sums.{both as bothSum, alike as alikeSum, one as oneSum, sumOf, plainSum};
 ghost use Rattle.within.specs.Plain.{ownType, Summed};
@@ -25,7 +34,8 @@ pub enum Judgement {
 }
 
 // The sum of a forest, where trees of one kind are wanted: such a tree counts 1, any other tree 2, and 2 is as far as it counts.
-// A type's sum is that of its forests where all have one, and else 2: 0 if they are empty, 1 if each is one tree of the kind. No type is without forests, so the sums of the parts settle it.
+// A type's sum is that of its forests where all have one, and else 2: 0 if they are empty, 1 if each is one tree of the kind. No type
+// is without forests, so the sums of the parts settle it.
 // Of one type behind another.
 fn both(a: u8, b: u8) -> u8
     requires { ⌜ (a ≤ 2) × (b ≤ 2) ⌝ }
@@ -58,7 +68,7 @@ fn one(k: u16, kind: u16) -> u8
 }
 
 // The sum of the type at row `i`, where `kind` is wanted, from the sums of the rows below.
-fn sum_of(own: &[u8], i: usize, kind: u16, sums: &[u8; 513]) -> u8
+fn sum_of(own: &[u8], i: usize, kind: u16, sums: &Flags) -> u8
     requires { ⌜ Lies (now own) 0 3 512 ⌝ }
     requires { ⌜ Lower (ownRow (now own)) ⌝ }
     requires { ⌜ i ≤ 512 ⌝ }
@@ -86,7 +96,7 @@ fn sum_up(own: &[u8], low: usize, kind: u16) -> u8
     requires { ⌜ (low ≤ 512) × ((j : ℕ) → j ≤ low → ownRow (now own) j .kind ≡ 0) ⌝ }
     ensures { λ r. ⌜ r ≡ sumOf kind (ownType (now (own .entry)) 512) ⌝ }
 {
-    let mut sums = [0u8; 513];
+    let mut sums = [0u8; ROWS];
     let mut i = low + 1;
     while i <= 512 {
         sums[i] = sum_of(own, i, kind, &sums);
@@ -113,7 +123,7 @@ pub fn plain(s: &[u8], work: &[u8], used: usize, found: usize, kind: u16) -> Jud
     ensures { λ r. ⌜ Answers (now (s .entry)) (tyIn (now (s .entry)) (now (work .entry)) used found) (plainTy kind) r ⌝ }
 {
     let mut own = [0u8; 3072];
-    let low = written::write_out(s, work, used, found, &mut own);
+    let low = type_rows::written::write_out(s, work, used, found, &mut own);
     if 512 <= low {
         return Judgement::Wide;
     }
@@ -146,13 +156,14 @@ fn is_own(s: &[u8], work: &[u8], used: usize, wanted: usize, own: &[u8; 3072], l
     ensures { λ r. ⌜ (r ≡ true → ownType (now (own .entry)) 512 ≡ tyIn (now (s .entry)) (now (work .entry)) used wanted) ⌝ }
 {
     let mut other = [0u8; 3072];
-    if written::write_out(s, work, used, wanted, &mut other) != low {
+    if type_rows::written::write_out(s, work, used, wanted, &mut other) != low {
         return false;
     }
     same_rows(own, &other, low)
 }
 
-// Is it in the sheet's type at row `wanted`, a declared type or a content, by the sheet's tables. Wide first; but a declared type, which is never Wide, lies in itself, and () in what may be empty.
+// Is it in the sheet's type at row `wanted`, a declared type or a content, by the sheet's tables. Wide first; but a declared type,
+// which is never Wide, lies in itself, and () in what may be empty.
 // A type with the same rows lies in it too; only then are places looked at.
 pub fn declared(
     s: &[u8],
@@ -160,39 +171,40 @@ pub fn declared(
     used: usize,
     found: usize,
     wanted: usize,
-    first: &[u64; 4617],
-    behind: &[u64; 4617],
-    class: &[u16; 1026],
-    same: &[u64; 4617],
-    kin: &[u16; 576],
+    first: &Sets,
+    behind: &Sets,
+    class: &Leads,
+    same: &Sets,
+    kin: &Kin,
 ) -> Judgement
     requires { ⌜ Loads (now s) done ⌝ }
     requires { ⌜ Grows (now s) (now work) used × (found ≤ scriptOf (now s) .types + used) × (found < 65536) ⌝ }
     requires { ⌜ (inTable (scriptOf (now s) .types) wanted ≡ true) × (isRoot (now s) wanted ≡ true) ⌝ }
     requires { ⌜ Lent (now s) (now first) (now behind) (now class) (now same) (now kin) ⌝ }
-    ensures { λ r. ⌜ Answers (now (s .entry)) (tyIn (now (s .entry)) (now (work .entry)) used found) (declaredTy (scriptOf (now (s .entry))) wanted) r ⌝ }
+    ensures { λ r. ⌜ Answers (now (s .entry)) (tyIn (now (s .entry)) (now (work .entry)) used found)
+        (declaredTy (scriptOf (now (s .entry))) wanted) r ⌝ }
 {
     if found == wanted {
         return Judgement::Holds;
     }
-    if grown::row(s, work, found).kind < 2 {
+    if type_rows::row(s, work, found).kind < 2 {
         if bits::has(first, wanted, 0) {
             return Judgement::Holds;
         }
         return Judgement::Fails;
     }
     let mut own = [0u8; 3072];
-    let low = written::write_out(s, work, used, found, &mut own);
+    let low = type_rows::written::write_out(s, work, used, found, &mut own);
     if 512 <= low {
         return Judgement::Wide;
     }
     if is_own(s, work, used, wanted, &own, low) {
         return Judgement::Holds;
     }
-    let mut own_first = [0u64; 4617];
-    let mut own_behind = [0u64; 4617];
-    points::of_own(&own, low, &mut own_first, &mut own_behind);
-    if inrow::in_row(
+    let mut own_first = [0u64; WORDS];
+    let mut own_behind = [0u64; WORDS];
+    type_tables::points::of_own(&own, low, &mut own_first, &mut own_behind);
+    if crate::row::in_row(
         s,
         &own,
         low,

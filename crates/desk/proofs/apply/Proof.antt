@@ -1,3 +1,4 @@
+-- Made by tools/cycle from tools/answers/desk/apply: change that, and run tools/proofs desk.
 -- `desk::apply` meets its contract: what was judged, and the working rows zeroed.
 use mathlib.Core.Path.{refl}
 use Rattle.desk.specs.Applying.{apply-replied}

@@ -1,13 +1,14 @@
+-- Made by tools/cycle from tools/answers/desk/check_judged: change that, and run tools/proofs desk.
 -- `desk::check_judged` meets its contract: the order of refusals 2, 3 and 4, then the check by the tables made on the way.
 use mathlib.Core.Path.{refl, sym, _∙_, subst}
 use borrow.Author.Tests.{not-true, not-false}
 use Rattle.meaning.specs.Reply.{Loads, misshapen}
 use Rattle.meaning.specs.Reply as meaning
 use Rattle.sheet.specs.Whole.{whole-shaped}
-use Rattle.places.specs.Tables.{clear-zeros}
-use Rattle.ties.specs.Sound.{soundOf}
-use Rattle.ties.specs.declared.Soundness.{Soundness}
-use Rattle.tables.specs.Lent.{lent-done}
+use Rattle.type_places.specs.Tables.{clear-zeros}
+use Rattle.type_ties.specs.Sound.{soundOf}
+use Rattle.type_ties.specs.declared.Soundness.{Soundness}
+use Rattle.type_tables.specs.Lent.{lent-done}
 use borrow.Author.Needs.{needs}
 use Rattle.desk.proofs.check_judged.Statement.{statement}
 use Rattle.desk.proofs.check_judged.Tie as tie

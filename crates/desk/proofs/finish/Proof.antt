@@ -1,6 +1,6 @@
 -- `desk::finish` meets its contract: what became of the result is what is said.
 use borrow.Author.Needs.{needs}
-use Rattle.room.specs.Hands.{hands-room, hands-rows}
+use Rattle.run_result.specs.Hands.{hands-room, hands-rows}
 use Rattle.desk.specs.Ends.{said-room, said-rows}
 use Rattle.desk.proofs.finish.Statement.{statement}
 use Rattle.desk.proofs.finish.Tie as tie

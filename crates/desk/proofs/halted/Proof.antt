@@ -3,8 +3,8 @@ use mathlib.Core.Path.{refl, subst}
 use Prim.Native.Nat.{_≤_}
 use Rattle.meaning.specs.Sheet.{scriptOf, sheetOf}
 use Rattle.meaning.specs.Check.{check-walk}
-use Rattle.grown.specs.Finds.{Halted}
-use Rattle.grown.specs.declared.Halt.{Halt}
+use Rattle.type_rows.specs.Finds.{Halted}
+use Rattle.type_rows.specs.declared.Halt.{Halt}
 use Rattle.desk.specs.Checking.{leftIn, halt-fuel, halt-depth, halt-wide, halt-mismatch, halt-outside}
 use borrow.Author.Needs.{needs}
 use Rattle.desk.proofs.halted.Statement.{statement}

@@ -1,10 +1,11 @@
+-- Made by tools/cycle from tools/answers/desk/judged: change that, and run tools/proofs desk.
 -- `desk::judged` meets its contract: the order of refusals 2, 3, 4 and 12.
 use mathlib.Core.Path.{sym, _∙_, subst}
 use native.Mathlib.Omega.{arith}
 use borrow.Author.Tests.{not-true, not-false}
 use Rattle.meaning.specs.Reply.{Loads, unsound, misshapen}
-use Rattle.ties.specs.Sound.{soundOf}
-use Rattle.ties.specs.declared.Soundness.{Soundness}
+use Rattle.type_ties.specs.Sound.{soundOf}
+use Rattle.type_ties.specs.declared.Soundness.{Soundness}
 use Rattle.sheet.specs.Whole.{whole-shaped}
 use Rattle.desk.specs.Ends.{few-asked}
 use borrow.Author.Needs.{needs}

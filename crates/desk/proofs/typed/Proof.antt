@@ -1,6 +1,7 @@
+-- Made by tools/cycle from tools/answers/desk/typed: change that, and run tools/proofs desk.
 -- `desk::typed` meets its contract: Scratch, then what the walk's end says.
 use native.Mathlib.Omega.{arith}
-use Rattle.grown.specs.Finds.{finds-done, finds-not}
+use Rattle.type_rows.specs.Finds.{finds-done, finds-not}
 use Rattle.desk.specs.Checking.{check-fuel-is, check-short, few-check-units, check-begun, left-in, check-done, done-left-in}
 use borrow.Author.Needs.{needs}
 use Rattle.desk.proofs.typed.Statement.{statement}

@@ -1,9 +1,10 @@
+-- Made by tools/cycle from tools/answers/desk/unwalked: change that, and run tools/proofs desk.
 -- `desk::unwalked` meets its contract: 3, 4, or Scratch.
 use mathlib.Core.Path.{subst}
 use native.Mathlib.Omega.{arith}
 use Rattle.meaning.specs.Reply.{Loads, unsound}
-use Rattle.ties.specs.Sound.{soundOf}
-use Rattle.ties.specs.declared.Soundness.{Soundness}
+use Rattle.type_ties.specs.Sound.{soundOf}
+use Rattle.type_ties.specs.declared.Soundness.{Soundness}
 use Rattle.desk.specs.Ends.{short}
 use borrow.Author.Needs.{needs}
 use Rattle.desk.proofs.unwalked.Statement.{statement}

@@ -1,3 +1,4 @@
+-- Made by tools/cycle from tools/answers/desk/walked: change that, and run tools/proofs desk.
 -- `desk::walked` meets its contract: what the walk's end says.
 use native.Mathlib.Omega.{arith}
 use Rattle.desk.specs.Ends.{begun, fuel-is, left-of, ends-not, ends-done, done-left, gave-of}

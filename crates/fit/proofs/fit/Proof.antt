@@ -1,12 +1,13 @@
+-- Made by tools/cycle from tools/answers/fit/fit: change that, and run tools/proofs fit.
 -- `fit::fit` meets its contract: each way out is one of the ways that `Fitted` has, in its order.
 use mathlib.Core.Path.{refl, ap}
 use denote.Ref.{now}
 use Rattle.meaning.specs.Reply.{unsound, fits, misfits}
 use Rattle.meaning.specs.Laws.Bools.{not-both}
 use Rattle.sheet.specs.Whole.{whole-shaped}
-use Rattle.places.specs.Tables.{clear-zeros}
-use Rattle.ties.specs.Sound.{soundOf}
-use Rattle.tables.specs.Lent.{lent-done}
+use Rattle.type_places.specs.Tables.{clear-zeros}
+use Rattle.type_ties.specs.Sound.{soundOf}
+use Rattle.type_tables.specs.Lent.{lent-done}
 use Rattle.fit.proofs.Whole.{not-shaped, is-shaped, no-told, past-told, is-told, loads-as}
 use Rattle.fit.specs.Fitting.{told-lent}
 use borrow.Author.Needs.{needs}

@@ -1,11 +1,13 @@
+-- Made by tools/cycle from tools/answers/fit/of_part: change that, and run tools/proofs fit.
 -- `fit::of_part` meets its contract: `next` is wired for the told row's model, the only root.
 use mathlib.Core.Path.{refl}
 use native.Mathlib.Omega.{arith}
 use denote.Ref.{now}
 use Rattle.sheet.specs.Laid.{types-lie}
-use Rattle.places.specs.Tables.{clear-zeros}
-use Rattle.places.specs.Sheets.{laid-rows}
+use Rattle.type_places.specs.Tables.{clear-zeros}
+use Rattle.type_places.specs.Sheets.{laid-rows}
 use Rattle.fit.proofs.Whole.{told-index, told-low, told-alone, told-wired}
+use borrow.Author.Needs.{needs}
 use Rattle.fit.proofs.of_part.Statement.{statement}
 use Rattle.fit.proofs.of_part.Tie as tie
 

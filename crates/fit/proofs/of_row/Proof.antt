@@ -1,8 +1,10 @@
+-- Made by tools/cycle from tools/answers/fit/of_row: change that, and run tools/proofs fit.
 -- `fit::of_row` meets its contract: a root's next sets are among the sheet's tables.
 use mathlib.Core.Path.{refl}
 use denote.Ref.{now}
-use Rattle.barren.specs.Flags.{unset}
+use Rattle.type_barren.specs.Flags.{unset}
 use Rattle.fit.proofs.Whole.{told-index, told-root}
+use borrow.Author.Needs.{needs}
 use Rattle.fit.proofs.of_row.Statement.{statement}
 use Rattle.fit.proofs.of_row.Tie as tie
 

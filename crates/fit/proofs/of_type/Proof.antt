@@ -1,5 +1,7 @@
+-- Made by tools/cycle from tools/answers/fit/of_type: change that, and run tools/proofs fit.
 -- `fit::of_type` meets its contract: the walk over the tables is right (Whole).
 use Rattle.fit.proofs.Whole.{walked, of-type}
+use borrow.Author.Needs.{needs}
 use Rattle.fit.proofs.of_type.Statement.{statement}
 use Rattle.fit.proofs.of_type.Tie as tie
 

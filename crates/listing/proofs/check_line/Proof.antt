@@ -1,7 +1,8 @@
+-- Made by tools/cycle from tools/answers/listing/check_line: change that, and run tools/proofs listing.
 -- `listing::check_line` meets its contract: the question's word, then its fields.
 use native.Mathlib.Omega.{arith}
 use Rattle.meaning.specs.Listing.{codes}
-use Rattle.lines.specs.Adds.{adds-then}
+use Rattle.listing.specs.Adds.{adds-then}
 use borrow.Author.Needs.{needs}
 use Rattle.listing.proofs.check_line.Statement.{statement}
 use Rattle.listing.proofs.check_line.Tie as tie

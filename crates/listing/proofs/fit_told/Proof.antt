@@ -1,3 +1,4 @@
+-- Made by tools/cycle from tools/answers/listing/fit_told: change that, and run tools/proofs listing.
 -- `listing::fit_told` meets its contract: Unfit, or what the run tells.
 use native.Mathlib.Omega.{arith}
 use Rattle.listing.specs.Lists.{fit-refused, fit-done}

@@ -1,3 +1,4 @@
+-- Made by tools/cycle from tools/answers/listing/sheet_told: change that, and run tools/proofs listing.
 -- `listing::sheet_told` meets its contract: a refusal of the load, one of the check, or what fit tells.
 use native.Mathlib.Omega.{arith}
 use Rattle.listing.specs.Lists.{check-loaded, check-refused, check-done}

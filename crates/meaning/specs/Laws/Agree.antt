@@ -1,4 +1,5 @@
--- Two sheets that agree in the words of their tables have the same tables: the same script where the script's words agree, the same forest rows where those do too. What lies past them is not looked at.
+-- Two sheets that agree in the words of their tables have the same tables: the same script where the script's words agree, the same forest rows where those do too. What lies past them is not looked
+-- at.
 use Prim.Native.Nat.{ℕ, _+_, _*_, _-_, _≤_, _<_}
 use mathlib.Core.Path.{_≡_, refl, _∙_, ap, ap₂, fun-ext}
 use mathlib.Core.Bool.{Bool, true, false, cond}
@@ -7,7 +8,28 @@ use native.Mathlib.Omega.{arith}
 use Rattle.meaning.specs.Limits.{header-words, type-words, row-words, procedure-words}
 use Rattle.meaning.specs.Words.{wordAt}
 use Rattle.meaning.specs.Tests.{inTable}
-use Rattle.meaning.specs.Sheet.{blank, no-procedure, row3, row4, row5, scriptOf, names-of, types-of, queries-of, statements-of, procedures-of, rows-of, pool-of, types-at, queries-at, statements-at, procedures-at, rows-at, pool-at, need}
+use Rattle.meaning.specs.Sheet.{
+  blank,
+  no-procedure,
+  row3,
+  row4,
+  row5,
+  scriptOf,
+  names-of,
+  types-of,
+  queries-of,
+  statements-of,
+  procedures-of,
+  rows-of,
+  pool-of,
+  types-at,
+  queries-at,
+  statements-at,
+  procedures-at,
+  rows-at,
+  pool-at,
+  need,
+}
 use Rattle.meaning.specs.Laws.Tests.{table-low, table-high}
 
 -- the header's words but for forest rows, pool, root and fuels, and the tables

@@ -1,5 +1,7 @@
--- Where rows refer only to lower rows and no row is referred to twice, the model at a row has each place once: a place on both sides of a row would lead, going up by its only user, to a row used twice or to a row below itself.
--- Then the computed next sets are wired, and words that go through one place can be exchanged behind it. A shaped sheet's types are such a table. Also: at row r, r steps down are enough, so the type and the model of a row are made of those of its parts.
+-- Where rows refer only to lower rows and no row is referred to twice, the model at a row has each place once: a place on both sides of a row would lead, going up by its only user, to a row used
+-- twice or to a row below itself.
+-- Then the computed next sets are wired, and words that go through one place can be exchanged behind it. A shaped sheet's types are such a table. Also: at row r, r steps down are enough, so the
+-- type and the model of a row are made of those of its parts.
 use Prim.Native.Nat.{ℕ, zero, suc, _-_, _≤_, _<_}
 use mathlib.Core.Path.{_≡_, refl, sym, _∙_, ap}
 use mathlib.Core.Bool.{Bool, true, false, _||_, false≢true}
@@ -51,12 +53,15 @@ unfolding Apart has Wired
 apart-wired nx Model.empty k x l h = tt
 apart-wired nx (Model.atom a) k x l h = (l a (eq-eqb a a refl), λ b. h a b (eq-eqb a a refl) ∙ behind-atom a k b)
 apart-wired nx (Model.seq m n) k x l h = (
-  apart-wired nx m (starting n k) (x .0) (λ a p. l a (or-left (has n a) p)) (λ a b p. h a b (or-left (has n a) p) ∙ behind-seq m n k a b ∙ left-only (absent n k a b (missing (has m a) (has n a) (x .2 a) p))),
-  apart-wired nx n k (x .1) (λ a p. l a (or-right (has m a) p)) (λ a b p. h a b (or-right (has m a) p) ∙ behind-seq m n k a b ∙ right-only (absent m (starting n k) a b (missing (has n a) (has m a) (λ q o. x .2 a o q) p))),
+  apart-wired nx m (starting n k) (x .0) (λ a p. l a (or-left (has n a) p))
+      (λ a b p. h a b (or-left (has n a) p) ∙ behind-seq m n k a b ∙ left-only (absent n k a b (missing (has m a) (has n a) (x .2 a) p))),
+  apart-wired nx n k (x .1) (λ a p. l a (or-right (has m a) p)) (λ a b p. h a b (or-right (has m a) p) ∙ behind-seq m n k a b
+      ∙ right-only (absent m (starting n k) a b (missing (has n a) (has m a) (λ q o. x .2 a o q) p))),
 )
 apart-wired nx (Model.choice m n) k x l h = (
   apart-wired nx m k (x .0) (λ a p. l a (or-left (has n a) p)) (λ a b p. h a b (or-left (has n a) p) ∙ behind-choice m n k a b ∙ left-only (absent n k a b (missing (has m a) (has n a) (x .2 a) p))),
-  apart-wired nx n k (x .1) (λ a p. l a (or-right (has m a) p)) (λ a b p. h a b (or-right (has m a) p) ∙ behind-choice m n k a b ∙ right-only (absent m k a b (missing (has n a) (has m a) (λ q o. x .2 a o q) p))),
+  apart-wired nx n k (x .1) (λ a p. l a (or-right (has m a) p)) (λ a b p. h a b (or-right (has m a) p) ∙ behind-choice m n k a b
+      ∙ right-only (absent m k a b (missing (has n a) (has m a) (λ q o. x .2 a o q) p))),
 )
 apart-wired nx (Model.star m) k x l h = apart-wired nx m (turning m k) x l (λ a b p. h a b p ∙ behind-star m k a b)
 

@@ -1,4 +1,5 @@
--- The computed sets of a model say what its words say: whether the empty word is one, what begins one, what ends one, and what stands right behind another in one. By induction over models and over words. And `same-head` says that two heads are one.
+-- The computed sets of a model say what its words say: whether the empty word is one, what begins one, what ends one, and what stands right behind another in one. By induction over models and over
+-- words. And `same-head` says that two heads are one.
 use Prim.Native.Nat.{ℕ}
 use mathlib.Core.Path.{_≡_, refl, sym, ap}
 use mathlib.Core.Bool.{true, _&&_, _||_, false≢true}

@@ -181,7 +181,8 @@ module _ (F W : Side) where
             and-left (W .has v (z .0)) (same-head (F .head u a) (W .head v (z .0))) (z .3),
             same-head-says (F .head u a) (W .head v (z .0)) .0 (and-right (W .has v (z .0)) (same-head (F .head u a) (W .head v (z .0))) (z .3)),
           )
-          go (inr e) = inr (bad-place a m (λ b k h. not-both (some-at test top b (low u v c b k .0) (low u v c b k .1) (and-both (W .has v b) (same-head (F .head u a) (W .head v b)) k (same-head-says (F .head u a) (W .head v b) .1 h))) e))
+          go (inr e) = inr (bad-place a m (λ b k h. not-both (some-at test top b (low u v c b k .0) (low u v c b k .1)
+              (and-both (W .has v b) (same-head (F .head u a) (W .head v b)) k (same-head-says (F .head u a) (W .head v b) .1 h))) e))
 
       pub none-bad : NoneBad x y → Included x y
       none-bad none f = closed-included (Comes x y) closed f x y here

@@ -1,4 +1,5 @@
--- The points of types are a side: every place that is reached stands in a word of its model, so a forest can go through it if every content has a forest. Tables that hold the points' sets are a side that goes alike.
+-- The points of types are a side: every place that is reached stands in a word of its model, so a forest can go through it if every content has a forest. Tables that hold the points' sets are a
+-- side that goes alike.
 use Prim.Native.Nat.{ℕ, _≤_}
 use mathlib.Core.Path.{_≡_, refl, sym, _∙_}
 use mathlib.Core.Bool.{Bool, true, false, _&&_}
@@ -137,8 +138,15 @@ module _ (T : Family) where
             let u : Word (T .model k) ((l ++ a ∷ []) ++ b ∷ v) = rw (append-assoc l (a ∷ []) (b ∷ v)) w in
             let p = each k h b (word-has u b (l ++ a ∷ []) v refl) in
             let t = place-tree (beyond k a) b (p .sort) in
-            let f = word-behind k h v (l ++ a ∷ []) b u in
-            (cons (t .0) (f .0), (b, and-both (ltb 0 b) (next (T .model k) a b) (lt-ltb 0 b (p .low)) (or-left (last (T .model k) a && eqb 0 b) (follows-word (T .model k) a b .1 (l, v, w))), t .1, f .1))
+            let f = word-behind k h v (l ++ a ∷ []) b u in (
+              cons (t .0) (f .0),
+              (
+                b,
+                and-both (ltb 0 b) (next (T .model k) a b) (lt-ltb 0 b (p .low)) (or-left (last (T .model k) a && eqb 0 b) (follows-word (T .model k) a b .1 (l, v, w))),
+                t .1,
+                f .1,
+              ),
+            )
 
         reached-lives : (x : Point (T .Key)) → Reached x → (a : ℕ) → ltb 0 a && x .set a ≡ true → Lives pointSide x a
         reached-lives x h a e =

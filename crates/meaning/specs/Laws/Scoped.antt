@@ -10,7 +10,27 @@ use borrow.Author.Tests.{ne-eqb}
 use Rattle.meaning.specs.Tests.{inTable}
 use Rattle.meaning.specs.Sheet.{Cells, Procedure, Script, Sheet, queries-of, statements-of, scriptOf, sheetOf}
 use Rattle.meaning.specs.Kinds.{Query, Statement, queryForm, statementForm, queryAt, statementAt, present}
-use Rattle.meaning.specs.Shape.{Scope, a-forest, a-tree, unused, query, argument, wordOk, wordsOk, queryUses, statementUses, has-place, query-scope, arguments-scope, statement-scope, parameters-scope, query-scoped, statement-scoped, scope-ok, shapely}
+use Rattle.meaning.specs.Shape.{
+  Scope,
+  a-forest,
+  a-tree,
+  unused,
+  query,
+  argument,
+  wordOk,
+  wordsOk,
+  queryUses,
+  statementUses,
+  has-place,
+  query-scope,
+  arguments-scope,
+  statement-scope,
+  parameters-scope,
+  query-scoped,
+  statement-scoped,
+  scope-ok,
+  shapely,
+}
 use Rattle.meaning.specs.Laws.Bools.{and-left, and-right, and-both, not-both}
 use Rattle.meaning.specs.Laws.Tests.{every-at, table-low, table-high}
 use Rattle.meaning.specs.Laws.Shaped.{cells, Part, part-of, queries-say, statements-say, body-says, roots, queries-pass, statements-pass, procedures-pass, roots-pass, scope-pass}
@@ -72,7 +92,8 @@ module _ (s : Sheet) where
   query-lower i (suc (suc (suc (suc (suc (suc zero)))))) p q r e = tt
   query-lower i (suc (suc (suc (suc (suc (suc (suc zero))))))) p q r e = tt
   query-lower i (suc (suc (suc (suc (suc (suc (suc (suc zero)))))))) p q r e = (part-of i p (search (and-left, and-right)), part-of i q (search (and-left, and-right)))
-  query-lower i (suc (suc (suc (suc (suc (suc (suc (suc (suc zero))))))))) p q r e = (part-of i p (search (and-left, and-right)), part-of i q (search (and-left, and-right)), part-of i r (search (and-left, and-right)))
+  query-lower i (suc (suc (suc (suc (suc (suc (suc (suc (suc zero))))))))) p q r e =
+      (part-of i p (search (and-left, and-right)), part-of i q (search (and-left, and-right)), part-of i r (search (and-left, and-right)))
   query-lower i (suc (suc (suc (suc (suc (suc (suc (suc (suc (suc zero)))))))))) p q r e = (part-of i p (search (and-left, and-right)), part-of i q (search (and-left, and-right)))
   query-lower i (suc (suc (suc (suc (suc (suc (suc (suc (suc (suc (suc zero))))))))))) p q r e = tt
   query-lower i (suc (suc (suc (suc (suc (suc (suc (suc (suc (suc (suc (suc zero)))))))))))) p q r e = part-of i p (search (and-left, and-right))
@@ -104,7 +125,8 @@ module _ (s : Sheet) where
       go false true f g = (f refl, tt)
       go false false f g = (f refl, (g refl, tt))
 
-  statement-lower : (i k p q r : ℕ) → wordsOk s (statementUses (s .script .procedureRow) (cells k p q r)) i (cells k p q r) ≡ true → LowerStatement (s .script .queries) (statementForm (cells k p q r)) i
+  statement-lower : (i k p q r : ℕ) → wordsOk s (statementUses (s .script .procedureRow) (cells k p q r)) i (cells k p q r) ≡ true
+      → LowerStatement (s .script .queries) (statementForm (cells k p q r)) i
   unfolding wordOk
   statement-lower i zero p q r e = tt
   statement-lower i (suc zero) p q r e = tt
@@ -120,7 +142,8 @@ module _ (s : Sheet) where
   statement-lower i (suc (suc (suc (suc (suc (suc (suc (suc (suc (suc (suc zero))))))))))) p q r e = part-of i p (search (and-left, and-right))
   statement-lower i (suc (suc (suc (suc (suc (suc (suc (suc (suc (suc (suc (suc zero)))))))))))) p q r e = part-of i p (search (and-left, and-right))
   statement-lower i (suc (suc (suc (suc (suc (suc (suc (suc (suc (suc (suc (suc (suc zero))))))))))))) p q r e = part-of i p (search (and-left, and-right))
-  statement-lower i (suc (suc (suc (suc (suc (suc (suc (suc (suc (suc (suc (suc (suc (suc zero)))))))))))))) p q r e = all-asked q r (argued i (s .script .procedureRow p .first) q (search (and-left, and-right))) (argued i (s .script .procedureRow p .second) r (search (and-left, and-right)))
+  statement-lower i (suc (suc (suc (suc (suc (suc (suc (suc (suc (suc (suc (suc (suc (suc zero)))))))))))))) p q r e =
+      all-asked q r (argued i (s .script .procedureRow p .first) q (search (and-left, and-right))) (argued i (s .script .procedureRow p .second) r (search (and-left, and-right)))
   statement-lower i (suc (suc (suc (suc (suc (suc (suc (suc (suc (suc (suc (suc (suc (suc (suc k))))))))))))))) p q r e = tt
 
   -- and so the arguments and the parameters make one scope
@@ -202,7 +225,8 @@ module _ (S : Script) (lower : (i : ℕ) → LowerStatement (S .queries) (statem
   unfolding statement-scoped
   statement-steps zero n i Γ o l h = refl
   statement-steps (suc k) zero i Γ o l h = absurd (omega arith)
-  statement-steps (suc k) (suc n) i Γ o l h = statement-other (statement-scoped S n) (statement-scoped S k) i (λ p b Δ e. statement-steps k n p Δ (b .low) (omega (arith, b .lower)) e) Γ (query-scoped S (S .queries)) (query-scoped S (S .queries)) (S .queries) (λ p b Δ e. e) (statementAt S i) (lower i) h
+  statement-steps (suc k) (suc n) i Γ o l h = statement-other (statement-scoped S n) (statement-scoped S k) i (λ p b Δ e. statement-steps k n p Δ (b .low) (omega (arith, b .lower)) e) Γ
+      (query-scoped S (S .queries)) (query-scoped S (S .queries)) (S .queries) (λ p b Δ e. e) (statementAt S i) (lower i) h
 
 -- ---- a sheet that passes Shape
 
@@ -235,7 +259,8 @@ module _ (s : List ℕ) (e : shapely s ≡ true) where
   query-in-scope d i Γ t h = query-steps (scriptOf s) queries-low d (scriptOf s .queries) i Γ (table-low (scriptOf s .queries) i t) (table-high (scriptOf s .queries) i t) h
 
   -- and a statement row
-  pub statement-in-scope : (d i : ℕ) (Γ : Scope) → inTable (scriptOf s .statements) i ≡ true → statement-scoped (scriptOf s) (scriptOf s .statements) Γ i ≡ true → statement-scoped (scriptOf s) d Γ i ≡ true
+  pub statement-in-scope : (d i : ℕ) (Γ : Scope) → inTable (scriptOf s .statements) i ≡ true → statement-scoped (scriptOf s) (scriptOf s .statements) Γ i ≡ true
+      → statement-scoped (scriptOf s) d Γ i ≡ true
   statement-in-scope d i Γ t h = statement-steps (scriptOf s) statements-low d (scriptOf s .statements) i Γ (table-low (scriptOf s .statements) i t) (table-high (scriptOf s .statements) i t) h
 
   main-row : inTable (scriptOf s .statements) (scriptOf s .main) ≡ true
@@ -259,13 +284,16 @@ module _ (s : List ℕ) (e : shapely s ≡ true) where
   unfolding scope-ok
   body-in-scope d c t = statement-in-scope d (scriptOf s .procedureRow c .body) (parameters c) (body-row c t)
       (every-at (λ i. statement-scoped (scriptOf s) (scriptOf s .statements) (parameters i) (scriptOf s .procedureRow i .body)) (scriptOf s .procedures)
-      (and-right (statement-scoped (scriptOf s) (scriptOf s .statements) [] (scriptOf s .main)) _ (scope-pass s e)) c (table-low (scriptOf s .procedures) c t) (table-high (scriptOf s .procedures) c t))
+      (and-right (statement-scoped (scriptOf s) (scriptOf s .statements) [] (scriptOf s .main)) _ (scope-pass s e)) c (table-low (scriptOf s .procedures) c t)
+      (table-high (scriptOf s .procedures) c t))
 
   -- ---- a statement row's parts, with a level of depth less
 
-  pub statement-parts : (d i : ℕ) (Γ : Scope) → statement-scoped (scriptOf s) (suc d) Γ i ≡ true → statement-scope (statementAt (scriptOf s) i) (statement-scoped (scriptOf s) d) (query-scoped (scriptOf s) d) Γ ≡ true
+  pub statement-parts : (d i : ℕ) (Γ : Scope) → statement-scoped (scriptOf s) (suc d) Γ i ≡ true
+      → statement-scope (statementAt (scriptOf s) i) (statement-scoped (scriptOf s) d) (query-scoped (scriptOf s) d) Γ ≡ true
   unfolding statement-scoped
-  statement-parts d i Γ h = statement-other (statement-scoped (scriptOf s) d) (statement-scoped (scriptOf s) d) i (λ p b Δ e. e) Γ (query-scoped (scriptOf s) (scriptOf s .queries)) (query-scoped (scriptOf s) d) (scriptOf s .queries) (λ p b Δ e. query-in-scope d p Δ b e) (statementAt (scriptOf s) i) (statements-low i) h
+  statement-parts d i Γ h = statement-other (statement-scoped (scriptOf s) d) (statement-scoped (scriptOf s) d) i (λ p b Δ e. e) Γ (query-scoped (scriptOf s) (scriptOf s .queries))
+      (query-scoped (scriptOf s) d) (scriptOf s .queries) (λ p b Δ e. query-in-scope d p Δ b e) (statementAt (scriptOf s) i) (statements-low i) h
 
   -- a call's body, with the arguments alone
   pub call-in-scope : (d i p q r : ℕ) → scriptOf s .statementRow i ≡ cells 14 p q r → statement-scoped (scriptOf s) d (parameters-scope (present q r)) (scriptOf s .procedureRow p .body) ≡ true
@@ -274,7 +302,8 @@ module _ (s : List ℕ) (e : shapely s ≡ true) where
     where
       go : (b : Bool) → inTable (statements-of s) i ≡ b → statement-scoped (scriptOf s) d (parameters-scope (present q r)) (scriptOf s .procedureRow p .body) ≡ true
       go true h =
-          let w : wordsOk (sheetOf s) (statementUses (scriptOf s .procedureRow) (cells 14 p q r)) i (cells 14 p q r) ≡ true = subst (λ (c : Cells). wordsOk (sheetOf s) (statementUses (scriptOf s .procedureRow) c) i c ≡ true) is (words-pass i h) in
+          let w : wordsOk (sheetOf s) (statementUses (scriptOf s .procedureRow) (cells 14 p q r)) i (cells 14 p q r) ≡ true =
+          subst (λ (c : Cells). wordsOk (sheetOf s) (statementUses (scriptOf s .procedureRow) c) i c ≡ true) is (words-pass i h) in
           let one : Procedure = scriptOf s .procedureRow p in
           let same = parameters-same (sheetOf s) i (one .first) (one .second) q r (search (and-left, and-right)) (search (and-left, and-right)) in
           subst (λ (Γ : Scope). statement-scoped (scriptOf s) d Γ (one .body) ≡ true) same (body-in-scope d p (search (and-left, and-right)))

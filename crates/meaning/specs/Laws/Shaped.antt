@@ -1,4 +1,5 @@
--- What Shape's tests say, each of a sheet that passes it: the limits, the words of the rows, the roots, one user for each row. Then of a slice that passes them all, and of its type rows kind by kind.
+-- What Shape's tests say, each of a sheet that passes it: the limits, the words of the rows, the roots, one user for each row. Then of a slice that passes them all, and of its type rows kind by
+-- kind.
 use Prim.Native.Nat.{ℕ, suc, _-_, _≤_, _<_}
 use mathlib.Core.Path.{_≡_}
 use mathlib.Core.Bool.{true, _&&_}
@@ -11,7 +12,34 @@ use borrow.Author.Tests.{eqb-true, leb-true}
 use Rattle.meaning.specs.Limits.{most-names, most-rows, most-procedures, most-forest-rows, most-pool, most-fuel, last-label}
 use Rattle.meaning.specs.Tests.{every, inTable}
 use Rattle.meaning.specs.Sheet.{Cells, Sheet, need, types-of, scriptOf, groveOf, sheetOf}
-use Rattle.meaning.specs.Shape.{wordOk, wordsOk, typeUses, queryUses, statementUses, forestUses, is-part, is-label, absent, procedure-ok, limits-ok, types-ok, queries-ok, statements-ok, rows-ok, names-ok, procedures-ok, roots-ok, type-users, query-users, statement-users, users-ok, scope-ok, shaped, whole, shapely}
+use Rattle.meaning.specs.Shape.{
+  wordOk,
+  wordsOk,
+  typeUses,
+  queryUses,
+  statementUses,
+  forestUses,
+  is-part,
+  is-label,
+  absent,
+  procedure-ok,
+  limits-ok,
+  types-ok,
+  queries-ok,
+  statements-ok,
+  rows-ok,
+  names-ok,
+  procedures-ok,
+  roots-ok,
+  type-users,
+  query-users,
+  statement-users,
+  users-ok,
+  scope-ok,
+  shaped,
+  whole,
+  shapely,
+}
 use Rattle.meaning.specs.Laws.Bools.{and-left, and-right, either}
 use Rattle.meaning.specs.Laws.Tests.{table-low, table-high, every-at}
 
@@ -79,9 +107,11 @@ module _ (t : Sheet) where
     unfolding queries-ok
     queries-say e h = and-right (inTable 13 (t .script .queryRow i .kind)) _ (every-at _ (t .script .queries) e i (table-low (t .script .queries) i h) (table-high (t .script .queries) i h))
 
-    pub statements-say : statements-ok t ≡ true → inTable (t .script .statements) i ≡ true → wordsOk t (statementUses (t .script .procedureRow) (t .script .statementRow i)) i (t .script .statementRow i) ≡ true
+    pub statements-say : statements-ok t ≡ true → inTable (t .script .statements) i ≡ true
+        → wordsOk t (statementUses (t .script .procedureRow) (t .script .statementRow i)) i (t .script .statementRow i) ≡ true
     unfolding statements-ok
-    statements-say e h = and-right (inTable 14 (t .script .statementRow i .kind)) _ (every-at _ (t .script .statements) e i (table-low (t .script .statements) i h) (table-high (t .script .statements) i h))
+    statements-say e h = and-right (inTable 14 (t .script .statementRow i .kind)) _
+        (every-at _ (t .script .statements) e i (table-low (t .script .statements) i h) (table-high (t .script .statements) i h))
 
     pub rows-say : rows-ok t ≡ true → inTable (t .grove .rows) i ≡ true → inTable 4 (t .grove .row i .kind) && wordsOk t (forestUses (t .grove .row i)) i (t .grove .row i) ≡ true
     unfolding rows-ok

@@ -3,7 +3,35 @@ use Prim.Native.Nat.{ℕ, zero, suc, _+_, _≤_, _<_}
 use mathlib.Core.Path.{_≡_, refl, sym, _∙_, ap, subst}
 use native.Mathlib.Omega.{arith}
 use native.Mathlib.Numerals.{add-one}
-use Rattle.meaning.specs.Walk.{Stop, Walk, ret, halt, tick, ask, _>>=_, pay, Judgement, pass, stop, Verdict, gives, fuel, stops, Settles, done, halted, short, paid, passed, refused, Quiet, Unasked, Settled, settle, due}
+use Rattle.meaning.specs.Walk.{
+  Stop,
+  Walk,
+  ret,
+  halt,
+  tick,
+  ask,
+  _>>=_,
+  pay,
+  Judgement,
+  pass,
+  stop,
+  Verdict,
+  gives,
+  fuel,
+  stops,
+  Settles,
+  done,
+  halted,
+  short,
+  paid,
+  passed,
+  refused,
+  Quiet,
+  Unasked,
+  Settled,
+  settle,
+  due,
+}
 
 module _ {A : Type 0} where
   -- a verdict that is not Fuel
@@ -225,5 +253,6 @@ module _ {Q : Type 0} (J : Q → Judgement → Type 0) {A : Type 0} where
       let sum : k + left' ≡ left = omega arith in
       λ v m s. subst (λ (n : ℕ). Settles J (pay k w) n v m) sum (pay-paid J k s)
 
-pub leads-then : {Q : Type 0} (J : Q → Judgement → Type 0) {A B : Type 0} {w : Walk Q A} {left left' : ℕ} {x : A} (k : A → Walk Q B) → Settles J w left (gives x) left' → Leads J (w >>= k) left (k x) left'
+pub leads-then : {Q : Type 0} (J : Q → Judgement → Type 0) {A B : Type 0} {w : Walk Q A} {left left' : ℕ} {x : A} (k : A → Walk Q B) → Settles J w left (gives x) left'
+    → Leads J (w >>= k) left (k x) left'
 leads-then J k s = λ v m t. gives-then J k s t

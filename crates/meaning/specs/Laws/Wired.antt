@@ -1,4 +1,5 @@
--- A table of next sets that is wired for a model admits exactly the forests of the model: forwards by induction over the forest's derivation, backwards over the model. Over any meaning `M` of the places; it is not asked that a model has each place once.
+-- A table of next sets that is wired for a model admits exactly the forests of the model: forwards by induction over the forest's derivation, backwards over the model. Over any meaning `M` of the
+-- places; it is not asked that a model has each place once.
 use Prim.Native.Nat.{ℕ, zero, suc, _≤_, _<_}
 use mathlib.Core.Path.{_≡_, refl, sym, _∙_, ap}
 use mathlib.Core.Bool.{Bool, true, false, _&&_, _||_, false≢true}

@@ -69,11 +69,14 @@ module _ (s : List ℕ) (e : shapely s ≡ true) where
       let n = scriptOf s .names in
       let m = closes (namesIn (scriptOf s)) n (contents-over s e) n (λ x. false) (none-earned (namesIn (scriptOf s))) (omega arith) in
       elim (search (λ x. (Name n x) × (m .0 x ≡ false)) (λ x. Name n x → m .0 x ≡ true) (one n (m .0)) (suc n)) [
-        | inl h ↦ inl (h .0, record {
-          is-name = h .2 .0;
-          barren = unmarked-barren (namesIn (scriptOf s)) n (contents-over s e) (m .0) (m .2) (h .0) (h .2 .0) (h .2 .1);
-          lowest = λ y k l. m .1 y (h .3 y l k);
-        })
+        | inl h ↦ inl (
+          h .0,
+          record {
+            is-name = h .2 .0;
+            barren = unmarked-barren (namesIn (scriptOf s)) n (contents-over s e) (m .0) (m .2) (h .0) (h .2 .0) (h .2 .1);
+            lowest = λ y k l. m .1 y (h .3 y l k);
+          },
+        )
         | inr h ↦ inr (λ x k. m .1 x (h x (omega (arith, table-high n x k)) k))
       ]
     where

@@ -175,8 +175,10 @@ module _ (s : List ℕ) (shape : shapely s ≡ true) where
     tidy-query (Query.bool b) = tt
     tidy-query (Query.variable v) = known-at Γ env v
     tidy-query (Query.letin p q) = tidy-then Known Known (asks Γ p) _ (ah Γ p env) λ x a. ah (Γ ++ x ∷ []) q (known-also Γ x env a)
-    tidy-query (Query.if p q r) = tidy-then Known Known (asks Γ p) _ (ah Γ p env) λ c a. (record { known = a; askable = of-plain plain-bool },
-        tidy-then Known Known (asks Γ q) _ (ah Γ q env) λ x b. tidy-then Known Known (asks Γ r) _ (ah Γ r env) λ y d. (b, d))
+    tidy-query (Query.if p q r) = tidy-then Known Known (asks Γ p) _ (ah Γ p env) λ c a. (
+      record { known = a; askable = of-plain plain-bool },
+      tidy-then Known Known (asks Γ q) _ (ah Γ q env) λ x b. tidy-then Known Known (asks Γ r) _ (ah Γ r env) λ y d. (b, d),
+    )
     tidy-query (Query.same p q) = tidy-then Known Known (asks Γ p) _ (ah Γ p env) λ x a. tidy-then Known Known (asks Γ q) _ (ah Γ q env) λ y b.
         (record { known = a; askable = of-plain plain-text }, (record { known = b; askable = of-plain plain-text }, tt))
     tidy-query (Query.children v) = tidy-inside (of-query i) (atomOf (namesIn S) (getD Γ v Ty.empty)) (known-atom (getD Γ v Ty.empty) (known-at Γ env v))
@@ -201,9 +203,12 @@ module _ (s : List ℕ) (shape : shapely s ≡ true) where
 
     -- a row that it names is declared
     names-row : (r : ℕ) → (eqb (row .first) r || eqb (row .second) r || eqb (row .input) r || eqb (row .output) r ≡ true) → inTable (S .types) r ≡ true → Wanted S r
-    names-row r h t = (t, or-left (is-content S r) (or-right (eqb (S .a) r || eqb (S .b) r || some (λ x. eqb (S .nameRow x) r) (S .names))
-        (some-at (λ c. eqb (S .procedureRow c .first) r || eqb (S .procedureRow c .second) r || eqb (S .procedureRow c .input) r || eqb (S .procedureRow c .output) r) (S .procedures) c
-        (table-low (S .procedures) c there) (table-high (S .procedures) c there) h)))
+    names-row r h t = (
+      t,
+      or-left (is-content S r) (or-right (eqb (S .a) r || eqb (S .b) r || some (λ x. eqb (S .nameRow x) r) (S .names))
+          (some-at (λ c. eqb (S .procedureRow c .first) r || eqb (S .procedureRow c .second) r || eqb (S .procedureRow c .input) r || eqb (S .procedureRow c .output) r) (S .procedures) c
+          (table-low (S .procedures) c there) (table-high (S .procedures) c there) h)),
+    )
 
     abbrev types-end : Bool
     types-end = leb (row .first) (S .types) && leb (row .second) (S .types) && (not (eqb (row .first) 0) || eqb (row .second) 0) && inTable (S .types) (row .input)
@@ -262,8 +267,10 @@ module _ (s : List ℕ) (shape : shapely s ≡ true) where
     tidy-statement Statement.none e = tt
     tidy-statement Statement.skip e = k
     tidy-statement (Statement.then p q) e = tidy-then Known Known (go Γ p τ) _ (h Γ p τ env k) λ x a. h Γ q x env a
-    tidy-statement (Statement.if p q r) e = tidy-then Known Known (asks Γ p) _ (ah Γ p env) λ c a. (record { known = a; askable = of-plain plain-bool },
-        tidy-then Known Known (go Γ q τ) _ (h Γ q τ env k) λ x b. tidy-then Known Known (go Γ r τ) _ (h Γ r τ env k) λ y d. (b, d))
+    tidy-statement (Statement.if p q r) e = tidy-then Known Known (asks Γ p) _ (ah Γ p env) λ c a. (
+      record { known = a; askable = of-plain plain-bool },
+      tidy-then Known Known (go Γ q τ) _ (h Γ q τ env k) λ x b. tidy-then Known Known (go Γ r τ) _ (h Γ r τ env k) λ y d. (b, d),
+    )
     tidy-statement (Statement.insert p) e = (record { known = k; askable = of-plain plain-empty }, ah Γ p env)
     tidy-statement Statement.delete e = tt
     tidy-statement (Statement.rename l) e = tidy-rename (of-statement i) l (atomOf (namesIn S) τ) (known-atom τ k)
@@ -274,9 +281,11 @@ module _ (s : List ℕ) (shape : shapely s ≡ true) where
     tidy-statement (Statement.left p) e = tidy-then Known Known (go Γ p Ty.empty) _ (h Γ p Ty.empty env tt) λ x a. (a, k)
     tidy-statement (Statement.right p) e = tidy-then Known Known (go Γ p Ty.empty) _ (h Γ p Ty.empty env tt) λ x a. (k, a)
     tidy-statement (Statement.iter p) e = tidy-parts (go Γ p) (λ σ j. h Γ p σ env j) τ k
-    tidy-statement (Statement.call c l) e = let t = calls-named s shape i c l e in (record { known = k; askable = of-row (S .procedureRow c .input) (input-row c t) },
-        tidy-then KnownAll Known (arguments (asks Γ) l) _ (tidy-arguments asks ah Γ env i l) λ x a.
-        tidy-lie (of-statement i) x (declaration S c .parameters) (declaration S c .output) a (parameters-askable c t) (declared-over s shape (S .procedureRow c .output)))
+    tidy-statement (Statement.call c l) e = let t = calls-named s shape i c l e in (
+      record { known = k; askable = of-row (S .procedureRow c .input) (input-row c t) },
+      tidy-then KnownAll Known (arguments (asks Γ) l) _ (tidy-arguments asks ah Γ env i l) λ x a.
+          tidy-lie (of-statement i) x (declaration S c .parameters) (declaration S c .output) a (parameters-askable c t) (declared-over s shape (S .procedureRow c .output)),
+    )
 
   tidy-infer : (d : ℕ) (Γ : Types) (i : ℕ) → KnownAll Γ → Tidy Known (infer S d Γ i)
   unfolding infer Safe

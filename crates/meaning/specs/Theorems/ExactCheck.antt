@@ -1,4 +1,5 @@
--- The check's walk and figures 4 and 13 say the same: what the walk finds is derived, by the closure of `All`; what is derived is found unless Fuel, Depth or Wide ends it, and with levels and units enough only Wide does, by the laws of `Sure`. So the figures derive one type at most, and the whole check accepts what the rules accept.
+-- The check's walk and figures 4 and 13 say the same: what the walk finds is derived, by the closure of `All`; what is derived is found unless Fuel, Depth or Wide ends it, and with levels and units
+-- enough only Wide does, by the laws of `Sure`. So the figures derive one type at most, and the whole check accepts what the rules accept.
 use Prim.Native.Nat.{ℕ, zero, suc, _+_, _≤_, _<_}
 use mathlib.Core.Path.{_≡_, refl}
 use mathlib.Core.List.{List, [], _∷_, _++_}
@@ -12,11 +13,115 @@ use Rattle.meaning.specs.Kinds.{Query, Test, Statement, queryAt, stateme
 use Rattle.meaning.specs.Types.{Ty, Named, Within, Atom, atomOf, declared, namesIn}
 use Rattle.meaning.specs.Walk.{Stop, Place, of-query, of-statement, ret, _>>=_, Judgement, pass, stop, Verdict, gives, Settles}
 use Rattle.meaning.specs.Run.{Fate, misfit, matched, passed, arguments}
-use Rattle.meaning.specs.Check.{Question, Judged, too-wide, holds, fails, Asking, Types, parts, tests, picked, test-type, rename-type, children-type, inside-type, ask-all, query-type, statement-type, declaration, infer, typing, body, bodies, check-walk}
-use Rattle.meaning.specs.Figures.{Atomic, is-text, is-bool, is-label, is-name, Picks, p-empty, p-kept, p-away, p-seq, p-choice, p-star, Has, h-empty, h-join, h-tree, h-text, h-bool, h-variable, h-let, h-if, h-same, h-children, h-pick, h-for, HasEach, e-empty, e-atom, e-seq, e-choice, e-star, HasAll, has-none, has-more, Lie, lie-none, lie-more, Typed, y-skip, y-then, y-if, y-insert, y-delete, y-rename, y-let, y-snapshot, y-test, y-pass, y-children, y-left, y-right, y-iter, y-call, TypedEach, i-empty, i-atom, i-seq, i-choice, i-star, Passes, Accepts}
+use Rattle.meaning.specs.Check.{
+  Question,
+  Judged,
+  too-wide,
+  holds,
+  fails,
+  Asking,
+  Types,
+  parts,
+  tests,
+  picked,
+  test-type,
+  rename-type,
+  children-type,
+  inside-type,
+  ask-all,
+  query-type,
+  statement-type,
+  declaration,
+  infer,
+  typing,
+  body,
+  bodies,
+  check-walk,
+}
+use Rattle.meaning.specs.Figures.{
+  Atomic,
+  is-text,
+  is-bool,
+  is-label,
+  is-name,
+  Picks,
+  p-empty,
+  p-kept,
+  p-away,
+  p-seq,
+  p-choice,
+  p-star,
+  Has,
+  h-empty,
+  h-join,
+  h-tree,
+  h-text,
+  h-bool,
+  h-variable,
+  h-let,
+  h-if,
+  h-same,
+  h-children,
+  h-pick,
+  h-for,
+  HasEach,
+  e-empty,
+  e-atom,
+  e-seq,
+  e-choice,
+  e-star,
+  HasAll,
+  has-none,
+  has-more,
+  Lie,
+  lie-none,
+  lie-more,
+  Typed,
+  y-skip,
+  y-then,
+  y-if,
+  y-insert,
+  y-delete,
+  y-rename,
+  y-let,
+  y-snapshot,
+  y-test,
+  y-pass,
+  y-children,
+  y-left,
+  y-right,
+  y-iter,
+  y-call,
+  TypedEach,
+  i-empty,
+  i-atom,
+  i-seq,
+  i-choice,
+  i-star,
+  Passes,
+  Accepts,
+}
 use Rattle.meaning.specs.Laws.Figures.{labelled-atom, atom-labelled, matches-atom, matches-tests, tests-matches, differs-tests, tests-differs, atom-fits}
 use Rattle.meaning.specs.Laws.Walk.{Single, All, all-given, all-then, all-map}
-use Rattle.meaning.specs.Laws.Sure.{Spent, Found, Ended, ended-found, Costs, costs-then, costs-ended, Sure, sure-ret, sure-tick, sure-ask, sure-row, sure-then, sure-ended, sure-found, sure-costs, sure-one}
+use Rattle.meaning.specs.Laws.Sure.{
+  Spent,
+  Found,
+  Ended,
+  ended-found,
+  Costs,
+  costs-then,
+  costs-ended,
+  Sure,
+  sure-ret,
+  sure-tick,
+  sure-ask,
+  sure-row,
+  sure-then,
+  sure-ended,
+  sure-found,
+  sure-costs,
+  sure-one,
+}
 
 -- ---- questions
 
@@ -74,7 +179,8 @@ module _ (S : Script) where
   -- queries, given what the rows below find
   module _ (go : Types → ℕ → Asking Ty) (ih : (Γ : Types) (p : ℕ) → All J (Has S Γ p) (go Γ p)) (Γ : Types) where
     each-all : (q : ℕ) (τ : Ty) → All J (HasEach S Γ q τ) (parts (λ α. go (Γ ++ α ∷ []) q) τ)
-    each-all q = parts-all J (HasEach S Γ q) _ e-empty (λ α a. all-map J (Has S (Γ ++ α ∷ []) q) _ (go (Γ ++ α ∷ []) q) (ih (Γ ++ α ∷ []) q) λ y b. e-atom a b) (λ _ _ _ _ a b. e-seq a b) (λ _ _ _ _ a b. e-choice a b) (λ _ _ a. e-star a)
+    each-all q = parts-all J (HasEach S Γ q) _ e-empty (λ α a. all-map J (Has S (Γ ++ α ∷ []) q) _ (go (Γ ++ α ∷ []) q) (ih (Γ ++ α ∷ []) q) λ y b. e-atom a b) (λ _ _ _ _ a b. e-seq a b)
+        (λ _ _ _ _ a b. e-choice a b) (λ _ _ a. e-star a)
 
     inside-all : (i v : ℕ) → queryAt S i ≡ Query.children v → (k : Atom) → atomOf (namesIn S) (getD Γ v Ty.empty) ≡ k → All J (Has S Γ i) (inside-type (of-query i) k)
     unfolding inside-type All
@@ -96,7 +202,8 @@ module _ (S : Script) where
     query-all i (Query.if p q r) e = all-then J _ _ (go Γ p) _ (ih Γ p) λ c a. λ j. all-then J _ _ (go Γ q) _ (ih Γ q) λ x b. all-then J _ _ (go Γ r) _ (ih Γ r) λ y d. h-if e a (met j) b d
     query-all i (Query.same p q) e = all-then J _ _ (go Γ p) _ (ih Γ p) λ x a. all-then J _ _ (go Γ q) _ (ih Γ q) λ y b. λ j k. h-same e a b (met j) (met k)
     query-all i (Query.children v) e = inside-all i v e _ refl
-    query-all i (Query.pick p l) e = all-then J _ _ (go Γ p) _ (ih Γ p) λ x a. all-map J _ _ (parts (λ α. picked (tests (Test.label l) (atomOf (namesIn S) α)) α) x) (picks-all J (namesIn S) l x) λ y b. h-pick e a b
+    query-all i (Query.pick p l) e = all-then J _ _ (go Γ p) _ (ih Γ p) λ x a. all-map J _ _ (parts (λ α. picked (tests (Test.label l) (atomOf (namesIn S) α)) α) x) (picks-all J (namesIn S) l x)
+        λ y b. h-pick e a b
     query-all i (Query.for p q) e = all-then J _ _ (go Γ p) _ (ih Γ p) λ x a. all-map J _ _ (parts (λ α. go (Γ ++ α ∷ []) q) x) (each-all q x) λ y b. h-for e a b
 
     arguments-all : (l : List ℕ) → All J (HasAll S Γ l) (arguments (go Γ) l)
@@ -140,14 +247,16 @@ module _ (S : Script) where
     children-all p e (Atom.label n σ) h = all-then J _ _ (go Γ p σ) _ (ih Γ p σ) λ x a. y-children e (atom-labelled (namesIn S) τ n σ h) a
 
     iter-all : (p : ℕ) (σ : Ty) → All J (TypedEach S Γ p σ) (parts (go Γ p) σ)
-    iter-all p = parts-all J (TypedEach S Γ p) (go Γ p) i-empty (λ α a. all-map J (Typed S Γ p α) _ (go Γ p α) (ih Γ p α) λ y b. i-atom a b) (λ _ _ _ _ a b. i-seq a b) (λ _ _ _ _ a b. i-choice a b) (λ _ _ a. i-star a)
+    iter-all p = parts-all J (TypedEach S Γ p) (go Γ p) i-empty (λ α a. all-map J (Typed S Γ p α) _ (go Γ p α) (ih Γ p α) λ y b. i-atom a b) (λ _ _ _ _ a b. i-seq a b) (λ _ _ _ _ a b. i-choice a b)
+        (λ _ _ a. i-star a)
 
     statement-all : (c : Statement) → statementAt S i ≡ c → All J (Typed S Γ i τ) (statement-type (namesIn S) (declaration S) c i go asks Γ τ)
     unfolding statement-type All
     statement-all Statement.none e = tt
     statement-all Statement.skip e = y-skip e
     statement-all (Statement.then p q) e = all-then J _ _ (go Γ p τ) _ (ih Γ p τ) λ x a. all-map J _ _ (go Γ q x) (ih Γ q x) λ y b. y-then e a b
-    statement-all (Statement.if p q r) e = all-then J _ _ (asks Γ p) _ (ah Γ p) λ c a. λ j. all-then J _ _ (go Γ q τ) _ (ih Γ q τ) λ x b. all-then J _ _ (go Γ r τ) _ (ih Γ r τ) λ y d. y-if e a (met j) b d
+    statement-all (Statement.if p q r) e = all-then J _ _ (asks Γ p) _ (ah Γ p) λ c a. λ j. all-then J _ _ (go Γ q τ) _ (ih Γ q τ) λ x b. all-then J _ _ (go Γ r τ) _ (ih Γ r τ) λ y d. y-if e a
+        (met j) b d
     statement-all (Statement.insert p) e = λ j. all-map J _ _ (asks Γ p) (ah Γ p) λ σ a. y-insert e (met j) a
     statement-all Statement.delete e = y-delete e
     statement-all (Statement.rename l) e = rename-all l e _ refl
@@ -158,7 +267,8 @@ module _ (S : Script) where
     statement-all (Statement.left p) e = all-then J _ _ (go Γ p Ty.empty) _ (ih Γ p Ty.empty) λ x a. y-left e a
     statement-all (Statement.right p) e = all-then J _ _ (go Γ p Ty.empty) _ (ih Γ p Ty.empty) λ x a. y-right e a
     statement-all (Statement.iter p) e = all-map J _ _ (parts (go Γ p) τ) (iter-all p τ) λ σ a. y-iter e a
-    statement-all (Statement.call c l) e = λ j. all-then J _ _ (arguments (asks Γ) l) _ (arguments-all asks ah Γ l) λ m a. lie-all _ (of-statement i) m (declaration S c .parameters) (declaration S c .output) λ k. y-call e (met j) a k refl
+    statement-all (Statement.call c l) e = λ j. all-then J _ _ (arguments (asks Γ) l) _ (arguments-all asks ah Γ l) λ m a. lie-all _ (of-statement i) m (declaration S c .parameters)
+        (declaration S c .output) λ k. y-call e (met j) a k refl
 
   typing-all : (d : ℕ) (Γ : Types) (i : ℕ) (τ : Ty) → All J (Typed S Γ i τ) (typing S d Γ i τ)
   unfolding typing All
@@ -279,7 +389,8 @@ module _ (S : Script) where
   lie-sure at lie-none s = s
   lie-sure at (lie-more h j) s = sure-ask _ h (lie-sure at j s)
 
-  typing-row : (Γ : Types) (i : ℕ) (τ : Ty) (c : Statement) {σ : Ty} → statementAt S i ≡ c → Sure Met σ (λ d. statement-type (namesIn S) (declaration S) c i (typing S d) (infer S d) Γ τ) → Sure Met σ (λ d. typing S d Γ i τ)
+  typing-row : (Γ : Types) (i : ℕ) (τ : Ty) (c : Statement) {σ : Ty} → statementAt S i ≡ c → Sure Met σ (λ d. statement-type (namesIn S) (declaration S) c i (typing S d) (infer S d) Γ τ)
+      → Sure Met σ (λ d. typing S d Γ i τ)
   unfolding typing
   typing-row Γ i τ c e s = sure-row _ refl (λ d. rw e refl) s
 
@@ -314,14 +425,17 @@ module _ (S : Script) where
   pub inferred-or-spent : {Γ : Types} {i : ℕ} {σ : Ty} → Has S Γ i σ → (d n m : ℕ) (v : Verdict Ty) → Settles (Judged (namesIn S)) (infer S d Γ i) n v m → Found (Spent (Unit {0}) (Unit {0})) σ v
   inferred-or-spent t = sure-found (Unit {0}) J (only-wide ⊥) (has-sure t)
 
-  pub found-or-spent : {Γ : Types} {i : ℕ} {τ σ : Ty} → Typed S Γ i τ σ → (d n m : ℕ) (v : Verdict Ty) → Settles (Judged (namesIn S)) (typing S d Γ i τ) n v m → Found (Spent (Unit {0}) (Unit {0})) σ v
+  pub found-or-spent : {Γ : Types} {i : ℕ} {τ σ : Ty} → Typed S Γ i τ σ → (d n m : ℕ) (v : Verdict Ty) → Settles (Judged (namesIn S)) (typing S d Γ i τ) n v m
+      → Found (Spent (Unit {0}) (Unit {0})) σ v
   found-or-spent t = sure-found (Unit {0}) J (only-wide ⊥) (typed-sure t)
 
   -- with levels and units enough, unless Wide ends it: Depth only if the levels are fewer than `deep`, Fuel only if the purse is less than `units`
-  pub inferred-enough : {Γ : Types} {i : ℕ} {σ : Ty} → Has S Γ i σ → (deep units : ℕ) × ((d n m : ℕ) (v : Verdict Ty) → Settles (Judged (namesIn S)) (infer S d Γ i) n v m → Ended (Spent (Unit {0}) (d < deep)) σ units n v m)
+  pub inferred-enough : {Γ : Types} {i : ℕ} {σ : Ty} → Has S Γ i σ → (deep units : ℕ)
+      × ((d n m : ℕ) (v : Verdict Ty) → Settles (Judged (namesIn S)) (infer S d Γ i) n v m → Ended (Spent (Unit {0}) (d < deep)) σ units n v m)
   inferred-enough t = let s = has-sure t in (s .deep, s .units, sure-ended (Unit {0}) J (only-wide ⊥) s)
 
-  pub found-enough : {Γ : Types} {i : ℕ} {τ σ : Ty} → Typed S Γ i τ σ → (deep units : ℕ) × ((d n m : ℕ) (v : Verdict Ty) → Settles (Judged (namesIn S)) (typing S d Γ i τ) n v m → Ended (Spent (Unit {0}) (d < deep)) σ units n v m)
+  pub found-enough : {Γ : Types} {i : ℕ} {τ σ : Ty} → Typed S Γ i τ σ → (deep units : ℕ)
+      × ((d n m : ℕ) (v : Verdict Ty) → Settles (Judged (namesIn S)) (typing S d Γ i τ) n v m → Ended (Spent (Unit {0}) (d < deep)) σ units n v m)
   found-enough t = let s = typed-sure t in (s .deep, s .units, sure-ended (Unit {0}) J (only-wide ⊥) s)
 
   -- the figures derive one type at most
@@ -338,7 +452,10 @@ module _ (S : Script) where
 
   body-costs : (Γ : Types) (i : ℕ) (τ σ : Ty) (p : Passes S Γ i τ σ) → (u : ℕ) × Checks (p .output) u (body S Γ i τ σ)
   unfolding body Costs
-  body-costs Γ i τ σ p = let s = typed-sure (p .typed) in (s .units + 0, costs-then Met _ (p .output) (p .output) (s .units) 0 (typing S most-depth Γ i τ) _ (sure-costs (Unit {0}) s most-depth) (p .lies, (refl, refl)))
+  body-costs Γ i τ σ p = let s = typed-sure (p .typed) in (
+    s .units + 0,
+    costs-then Met _ (p .output) (p .output) (s .units) 0 (typing S most-depth Γ i τ) _ (sure-costs (Unit {0}) s most-depth) (p .lies, (refl, refl)),
+  )
 
   bodies-costs : (n : ℕ) → Kept n → (w : Asking Ty) (σ : Ty) (u : ℕ) → Checks σ u w → (t : ℕ) × Checks σ t (bodies S n w)
   unfolding bodies
@@ -353,7 +470,8 @@ module _ (S : Script) where
   check-costs a = let b = body-costs _ _ _ _ (a .main) in bodies-costs (S .procedures) (a .procedures) _ (a .main .output) (b .0) (b .1)
 
   -- what the rules accept, the check accepts with main's type, unless Depth or Wide ends it, or Fuel, the purse being less than `units`
-  pub accepts-enough : (a : Accepts S) → (units : ℕ) × ((n m : ℕ) (v : Verdict Ty) → Settles (Judged (namesIn S)) (check-walk S) n v m → Ended (Spent (Unit {0}) (Unit {0})) (a .main .output) units n v m)
+  pub accepts-enough : (a : Accepts S) → (units : ℕ) × ((n m : ℕ) (v : Verdict Ty) → Settles (Judged (namesIn S)) (check-walk S) n v m
+      → Ended (Spent (Unit {0}) (Unit {0})) (a .main .output) units n v m)
   accepts-enough a = let c = check-costs a in (c .0, λ n m v s. costs-ended Met _ _ J (only-wide (Unit {0})) s (c .0) (c .1))
 
   pub accepts-found-or-spent : (a : Accepts S) (n m : ℕ) (v : Verdict Ty) → Settles (Judged (namesIn S)) (check-walk S) n v m → Found (Spent (Unit {0}) (Unit {0})) (a .main .output) v

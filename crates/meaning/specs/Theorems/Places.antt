@@ -1,5 +1,7 @@
--- A forest is of a type exactly if the places of the type's model admit it: over any table of rows in order, by the computed sets and by any table that is wired, and so for every row of a shaped sheet.
--- By induction on forests: a place's content is smaller than the tree that stands there. And ties are what the words of the models say (XML 1.0, section 3.2.1, as Brüggemann-Klein and Wood read it).
+-- A forest is of a type exactly if the places of the type's model admit it: over any table of rows in order, by the computed sets and by any table that is wired, and so for every row of a shaped
+-- sheet.
+-- By induction on forests: a place's content is smaller than the tree that stands there. And ties are what the words of the models say (XML 1.0, section 3.2.1, as Brüggemann-Klein and Wood read
+-- it).
 use Prim.Native.Nat.{ℕ, zero, suc, _≤_, _<_}
 use mathlib.Core.Path.{_≡_, refl, _∙_, ap, subst⁻¹, fun-ext}
 use mathlib.Core.Bool.{Bool, true, _&&_, _||_, not, false≢true}
@@ -13,13 +15,58 @@ use Rattle.meaning.specs.Sheet.{Cells, Script, scriptOf}
 use Rattle.meaning.specs.Kinds.{TypeRow, typeForm}
 use Rattle.meaning.specs.Forest.{Text, Tree, Forest, nil, cons, only, _⊕_}
 use Rattle.meaning.specs.Types.{Ty, Named, Head, opened, Of, of-empty, of-text, of-bool, of-label, of-seq, of-left, of-right, of-none, of-more, of-name, tyForm, tyAt, declared, namesIn}
-use Rattle.meaning.specs.Places.{Model, modelForm, modelAt, modelIn, Word, Next, Set, first, follows, start, next, acting, headAt, contentAt, Fits, Admits, same-head, rivals, is-declared, is-content, tied}
+use Rattle.meaning.specs.Places.{
+  Model,
+  modelForm,
+  modelAt,
+  modelIn,
+  Word,
+  Next,
+  Set,
+  first,
+  follows,
+  start,
+  next,
+  acting,
+  headAt,
+  contentAt,
+  Fits,
+  Admits,
+  same-head,
+  rivals,
+  is-declared,
+  is-content,
+  tied,
+}
 use Rattle.meaning.specs.Shape.{shapely}
 use Rattle.meaning.specs.Laws.Bools.{or-left, or-right, or-cases, and-left, and-right, and-both}
 use Rattle.meaning.specs.Laws.Tests.{in-table, table-low, table-high, some-at, some-of}
 use Rattle.meaning.specs.Laws.Models.{same-head-says, first-word, follows-word}
 use Rattle.meaning.specs.Laws.Wired.{has, Wired, ends, In, in-empty, in-atom, in-seq, in-left, in-right, in-none, in-more, Lang, places, FitsBy, AdmitsBy, admits-by-lang}
-use Rattle.meaning.specs.Laws.Apart.{Apart, exchanged, word-has, model-placed, model-below, model-apart, Low, Lower, Labelled, Once, View, v-text, v-bool, v-label, v-name, view, tyAt-row, modelAt-row, model-wired, shaped-lower, shaped-labelled, shaped-once}
+use Rattle.meaning.specs.Laws.Apart.{
+  Apart,
+  exchanged,
+  word-has,
+  model-placed,
+  model-below,
+  model-apart,
+  Low,
+  Lower,
+  Labelled,
+  Once,
+  View,
+  v-text,
+  v-bool,
+  v-label,
+  v-name,
+  view,
+  tyAt-row,
+  modelAt-row,
+  model-wired,
+  shaped-lower,
+  shaped-labelled,
+  shaped-once,
+}
 
 -- ---- what is of a place's type
 

@@ -15,7 +15,28 @@ use Rattle.meaning.specs.Limits.{row-words}
 use Rattle.meaning.specs.Tests.{total}
 use Rattle.meaning.specs.Words.{wordAt, bytesOf}
 use Rattle.meaning.specs.Sheet.{Cells, blank, Grove, Sheet}
-use Rattle.meaning.specs.Forest.{Tree, Forest, nil, cons, text, bool, node, bytesFrom, textAt, treeForm, forest, forestAt, forestOf, treeSize, forestSize, rootAfter, treeRows, forestRows, resultRows, rowBytes}
+use Rattle.meaning.specs.Forest.{
+  Tree,
+  Forest,
+  nil,
+  cons,
+  text,
+  bool,
+  node,
+  bytesFrom,
+  textAt,
+  treeForm,
+  forest,
+  forestAt,
+  forestOf,
+  treeSize,
+  forestSize,
+  rootAfter,
+  treeRows,
+  forestRows,
+  resultRows,
+  rowBytes,
+}
 use Rattle.meaning.specs.Shape.{forestUses, own, hit, hits, row-users}
 use Rattle.meaning.specs.Reply.{given}
 use Rattle.meaning.specs.Laws.Words.{word-of-bytes, word-past}
@@ -328,7 +349,16 @@ lent-past a b i e =
     let one : 4 + row-words * (suc i - 1) + 1 ≡ 4 + (row-words * (suc i - 1) + 1) = omega arith in
     let two : 4 + row-words * (suc i - 1) + 2 ≡ 4 + (row-words * (suc i - 1) + 2) = omega arith in
     let three : 4 + row-words * (suc i - 1) + 3 ≡ 4 + (row-words * (suc i - 1) + 3) = omega arith in
-    rw (at, one, two, three, word-past a b 4 (row-words * (suc i - 1)) e, word-past a b 4 (row-words * (suc i - 1) + 1) e, word-past a b 4 (row-words * (suc i - 1) + 2) e, word-past a b 4 (row-words * (suc i - 1) + 3) e)
+    rw (
+      at,
+      one,
+      two,
+      three,
+      word-past a b 4 (row-words * (suc i - 1)) e,
+      word-past a b 4 (row-words * (suc i - 1) + 1) e,
+      word-past a b 4 (row-words * (suc i - 1) + 2) e,
+      word-past a b 4 (row-words * (suc i - 1) + 3) e,
+    )
 
 lent-rows : (l : List Cells) (rest : List ℕ) (i : ℕ) → AllWords l → i < length l → getD l i blank ≡ lentRow (rowBytes l ++ rest) (suc i)
 unfolding rowBytes bytesOf

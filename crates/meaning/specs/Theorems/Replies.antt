@@ -263,7 +263,7 @@ check-stays {s} work′ w (Checked.no-scratch l n) o more limit lent = absurd o
 check-stays {s} {units = u} work′ w (walked {v = v} l n t e d) o more limit lent =
     let k = check-fuel-is s l w limit in
     walked-more s (withCheckFuel s w) (alike-script s (withCheckFuel s w) (check-alike s l w limit)) {units = u} t e d
-        (firm-other v (subst Firm (sym e) o)) (rw k more) (check-load-stays s w limit l more) (rw k lent)
+    (firm-other v (subst Firm (sym e) o)) (rw k more) (check-load-stays s w limit l more) (rw k lent)
 
 -- the first rows of a result, over another lent slice
 abbrev pub handed : ℕ → List ℕ → List ℕ → List ℕ
@@ -283,13 +283,13 @@ run-stays {s} work′ result′ w (Ran.no-scratch l n) o more limit lent fits = 
 run-stays {s} {units = u} work′ result′ w (ended l n e d) o more limit lent fits =
     let g = alike-grove s (withRunFuel s w) (run-alike s l w limit) in let i = run-fuel-is s l w limit in
     let k = verdict-more (run-walk (sheetOf s)) (run-walk (sheetOf (withRunFuel s w))) (sheetOf s .runFuel) (sheetOf (withRunFuel s w) .runFuel) (run-settled s .verdict)
-        (same-walk s (withRunFuel s w) (alike-script s (withRunFuel s w) (run-alike s l w limit)) g) (rw i more) refl (firm-other (run-settled s .verdict) (subst Firm (sym e) o)) in
+    (same-walk s (withRunFuel s w) (alike-script s (withRunFuel s w) (run-alike s l w limit)) g) (rw i more) refl (firm-other (run-settled s .verdict) (subst Firm (sym e) o)) in
     ended {units = u} (run-load-stays s w limit l more) (rw (g, i) lent) (ap verdict-answer (k .0) ∙ e) (omega (arith, k .1))
 run-stays {s} work′ result′ w (no-room l n g d x) o more limit lent fits = absurd o
 run-stays {s} {result = result} {units = u} {root = root} work′ result′ w (gave {f = f} l n h d x y z) o more limit lent fits =
     let g = alike-grove s (withRunFuel s w) (run-alike s l w limit) in let i = run-fuel-is s l w limit in
     let k = verdict-more (run-walk (sheetOf s)) (run-walk (sheetOf (withRunFuel s w))) (sheetOf s .runFuel) (sheetOf (withRunFuel s w) .runFuel) (gives f)
-        (same-walk s (withRunFuel s w) (alike-script s (withRunFuel s w) (run-alike s l w limit)) g) (rw i more) h tt in
+    (same-walk s (withRunFuel s w) (alike-script s (withRunFuel s w) (run-alike s l w limit)) g) (rw i more) h tt in
     gave {units = u} (run-load-stays s w limit l more) (rw (g, i) lent) (k .0) (omega (arith, k .1)) (omega arith) y (ap₂ (λ n o. handed n o result′) y z ∙ given-handed f result result′)
 
 -- ---- apply's order

@@ -11,7 +11,44 @@ use Rattle.meaning.specs.Walk.{gives}
 use Rattle.meaning.specs.Check.{Judged}
 use Rattle.meaning.specs.Places.{Tie, LowestBarren, tied}
 use Rattle.meaning.specs.Bundle.{framed, sheetIn}
-use Rattle.meaning.specs.Reply.{Refusal, barren, tie, block, Answer, done, refused, verdict-answer, Loads, misshapen, is-barren, is-tied, sound, Checked, walked, Fitted, no-row, fits, misfits, Ran, ended, no-room, gave, run-settled, Applied, unchecked, unfitted, applied, Reply, CheckReply, FitReply, RunReply, ApplyReply, OfBundle, unframed, opened}
+use Rattle.meaning.specs.Reply.{
+  Refusal,
+  barren,
+  tie,
+  block,
+  Answer,
+  done,
+  refused,
+  verdict-answer,
+  Loads,
+  misshapen,
+  is-barren,
+  is-tied,
+  sound,
+  Checked,
+  walked,
+  Fitted,
+  no-row,
+  fits,
+  misfits,
+  Ran,
+  ended,
+  no-room,
+  gave,
+  run-settled,
+  Applied,
+  unchecked,
+  unfitted,
+  applied,
+  Reply,
+  CheckReply,
+  FitReply,
+  RunReply,
+  ApplyReply,
+  OfBundle,
+  unframed,
+  opened,
+}
 use Rattle.meaning.specs.Listing.{Told, loaded, check-ended, fit-ended, run-ended, all-done, Tells, not-framed, not-loaded, not-checked, not-fit, not-run, told, lent-work, lent-result}
 use Rattle.meaning.specs.Laws.Bools.{not-both}
 use Rattle.meaning.specs.Laws.Walk.{one-verdict}
@@ -249,7 +286,8 @@ module _ (b : List ℕ) where
   run-one u (refused c) v r o = is-one _
 
   fit-one : (u : ℕ) (a : Answer) → One (after-fit u a)
-  fit-one u done = step-one is-run (after-run u) (λ x y k h. let e = one-run (sheetIn b) lent-work lent-result k h in λ i. (e .0 i, e .1 i, e .2 i, e .3 i)) (λ x. run-one u (x .0) (x .1) (x .2) (x .3))
+  fit-one u done = step-one is-run (after-run u) (λ x y k h. let e = one-run (sheetIn b) lent-work lent-result k h in λ i. (e .0 i, e .1 i, e .2 i, e .3 i))
+      (λ x. run-one u (x .0) (x .1) (x .2) (x .3))
   fit-one u (refused r) = is-one _
 
   check-one : (a : Answer) (u : ℕ) → One (after-check (a, u))

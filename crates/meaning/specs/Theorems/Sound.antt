@@ -15,7 +15,31 @@ use Rattle.meaning.specs.Walk.{Place, Verdict, gives, fuel, stops, Settl
 use Rattle.meaning.specs.Run.{run-walk}
 use Rattle.meaning.specs.Check.{Judged, check-walk}
 use Rattle.meaning.specs.Figures.{Accepts}
-use Rattle.meaning.specs.Reply.{Refusal, scratch, room, Answer, done, refused, verdict-answer, Loads, Checked, walked, Fitted, fits, Ran, ended, no-room, gave, run-settled, Applied, unchecked, unfitted, applied, Reply, CheckReply}
+use Rattle.meaning.specs.Reply.{
+  Refusal,
+  scratch,
+  room,
+  Answer,
+  done,
+  refused,
+  verdict-answer,
+  Loads,
+  Checked,
+  walked,
+  Fitted,
+  fits,
+  Ran,
+  ended,
+  no-room,
+  gave,
+  run-settled,
+  Applied,
+  unchecked,
+  unfitted,
+  applied,
+  Reply,
+  CheckReply,
+}
 use Rattle.meaning.specs.Theorems.ReadBack.{lentRow, given-back}
 use Rattle.meaning.specs.Theorems.ExactCheck.{accepted}
 use Rattle.meaning.specs.Theorems.Single.{one-load, done-loads}
@@ -74,7 +98,8 @@ module _ {s s′ work : List ℕ} {u : ℕ} (checked : Checked s work done u) (s
   unfolding run-walk sheetOf
   run-ends =
       let S = scriptOf s′ in let a : Accepts S = rw script (checked-accepts checked) in let m = a .main in
-      ends-within (m .lies) (typed-sound S (groveOf s′ .byte) (calls-named s′ (loads-shapely loads)) (a .procedures) most-depth (sheetOf s′ .runFuel) [] [] (S .main) (declared S (S .a)) (m .output) (forestOf (groveOf s′)) (m .typed) fit-none member)
+      ends-within (m .lies) (typed-sound S (groveOf s′ .byte) (calls-named s′ (loads-shapely loads)) (a .procedures) most-depth (sheetOf s′ .runFuel) [] [] (S .main) (declared S (S .a)) (m .output)
+      (forestOf (groveOf s′)) (m .typed) fit-none member)
 
   -- for every run fuel and every lent length, on any sheet with the script that check passed, whose forest is of A
   pub sound-run : {work′ result after : List ℕ} {a : Answer} {units root : ℕ} → Ran s′ work′ result a units root after → Safely s′ a root after
@@ -101,14 +126,16 @@ pub fitted-of-A : {s : List ℕ} → Fitted s (scriptOf s .a) done → OfA s
 fitted-of-A (fits e l o) = o
 
 -- any other forest of A, with its pool, root and fuels, behind the tables that check passed
-pub sound-any-forest : {s s′ work work′ result after : List ℕ} {a : Answer} {u units root : ℕ} → Checked s work done u → SameTables s s′ → Loads s′ done → OfA s′ → Ran s′ work′ result a units root after → Safely s′ a root after
+pub sound-any-forest : {s s′ work work′ result after : List ℕ} {a : Answer} {u units root : ℕ} → Checked s work done u → SameTables s s′ → Loads s′ done → OfA s′
+    → Ran s′ work′ result a units root after → Safely s′ a root after
 sound-any-forest {s} {s′} c same l o r = sound-run c (same-script s s′ same) l o r
 
 -- the checked sheet itself, with its own run fuel and with every other up to the limit
 pub sound-self : {s work work′ result after : List ℕ} {a : Answer} {u units root : ℕ} → Checked s work done u → OfA s → Ran s work′ result a units root after → Safely s a root after
 sound-self c o r = sound-run c refl (done-loads c) o r
 
-pub sound-every-fuel : {s work work′ result after : List ℕ} {a : Answer} {u units root : ℕ} (w : ℕ) → w ≤ most-fuel → Checked s work done u → OfA s → Ran (withRunFuel s w) work′ result a units root after
+pub sound-every-fuel : {s work work′ result after : List ℕ} {a : Answer} {u units root : ℕ} (w : ℕ) → w ≤ most-fuel → Checked s work done u → OfA s
+    → Ran (withRunFuel s w) work′ result a units root after
     → Safely (withRunFuel s w) a root after
 sound-every-fuel {s} w limit c o r =
     let l = done-loads c in let k = run-alike s l w limit in let e = alike-script s (withRunFuel s w) k in

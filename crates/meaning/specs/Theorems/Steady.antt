@@ -19,7 +19,38 @@ use Rattle.meaning.specs.Run.{run-walk}
 use Rattle.meaning.specs.Check.{Judged, check-walk}
 use Rattle.meaning.specs.Shape.{Use, wordOk, types-ok, queries-ok, statements-ok, rows-ok, names-ok, procedures-ok, roots-ok, limits-ok}
 use Rattle.meaning.specs.Shape.{type-users, query-users, statement-users, row-users, users-ok, scope-ok, shaped, whole, shapely}
-use Rattle.meaning.specs.Reply.{Refusal, block, shape, barren, tie, fuel, depth, wide, mismatch, outside, unfit, stuck, scratch, room, Answer, done, refused, verdict-answer, Loads, misshapen, is-barren, is-tied, sound, Checked, walked, Ran, gave, Reply, RunReply, CheckReply}
+use Rattle.meaning.specs.Reply.{
+  Refusal,
+  block,
+  shape,
+  barren,
+  tie,
+  fuel,
+  depth,
+  wide,
+  mismatch,
+  outside,
+  unfit,
+  stuck,
+  scratch,
+  room,
+  Answer,
+  done,
+  refused,
+  verdict-answer,
+  Loads,
+  misshapen,
+  is-barren,
+  is-tied,
+  sound,
+  Checked,
+  walked,
+  Ran,
+  gave,
+  Reply,
+  RunReply,
+  CheckReply,
+}
 use Rattle.meaning.specs.Laws.Bools.{and-left, and-right, and-both, not-both}
 use Rattle.meaning.specs.Laws.Shaped.{few, limits-pass, long as shaped-long}
 use Rattle.meaning.specs.Laws.Agree.{SameTables, same-script, pool-here, need-same, same-rows}
@@ -74,20 +105,23 @@ module _ (s s′ : List ℕ) (script : scriptOf s′ ≡ scriptOf s) where
     same-walk = rw (script, grove)
 
     -- the same rows, root and units, if the working rows suffice
-    pub steady-run : {work work′ result after : List ℕ} {u root : ℕ} → Ran s work result done u root after → sheetOf s .runFuel ≤ sheetOf s′ .runFuel → Loads s′ done → groveOf s′ .rows + sheetOf s′ .runFuel ≤ rowsLent work′
+    pub steady-run : {work work′ result after : List ℕ} {u root : ℕ} → Ran s work result done u root after → sheetOf s .runFuel ≤ sheetOf s′ .runFuel → Loads s′ done
+        → groveOf s′ .rows + sheetOf s′ .runFuel ≤ rowsLent work′
         → Ran s′ work′ result done u root after
     steady-run (gave {f = f} {units = u} l n g d x y z) more loads lent =
         let k = verdict-more (run-walk (sheetOf s)) (run-walk (sheetOf s′)) (sheetOf s .runFuel) (sheetOf s′ .runFuel) (gives f) same-walk more g tt in
         gave {units = u} loads lent (k .0) (omega (arith, k .1)) x y z
 
     -- and every reply is that one
-    pub steady-replies : {work work′ result : List ℕ} {R R′ : Reply} → RunReply s work result R → R .answer ≡ done → sheetOf s .runFuel ≤ sheetOf s′ .runFuel → Loads s′ done → groveOf s′ .rows + sheetOf s′ .runFuel ≤ rowsLent work′
+    pub steady-replies : {work work′ result : List ℕ} {R R′ : Reply} → RunReply s work result R → R .answer ≡ done → sheetOf s .runFuel ≤ sheetOf s′ .runFuel → Loads s′ done
+        → groveOf s′ .rows + sheetOf s′ .runFuel ≤ rowsLent work′
         → RunReply s′ work′ result R′ → (R′ .answer ≡ done) × (R′ .runUnits ≡ R .runUnits) × (R′ .root ≡ R .root) × (R′ .result ≡ R .result)
     steady-replies {work′ = work′} {result = result} r a more loads lent r′ = one-run s′ work′ result (r′ .said) (steady-run (rw a at (r .said)) more loads lent)
 
   -- ---- a check's verdict
 
-  settles-more : {n m l : ℕ} {v : Verdict Ty} → Settles (Judged (namesIn (scriptOf s))) (check-walk (scriptOf s)) n v l → Other v → n ≤ m → Settles (Judged (namesIn (scriptOf s′))) (check-walk (scriptOf s′)) m v (l + (m - n))
+  settles-more : {n m l : ℕ} {v : Verdict Ty} → Settles (Judged (namesIn (scriptOf s))) (check-walk (scriptOf s)) n v l → Other v → n ≤ m
+      → Settles (Judged (namesIn (scriptOf s′))) (check-walk (scriptOf s′)) m v (l + (m - n))
   settles-more {n} {m} {v = v} t o more =
       let k : n + (m - n) ≡ m = omega arith in
       let r = steady (Judged (namesIn (scriptOf s))) (m - n) t o in
@@ -106,7 +140,8 @@ module _ (s s′ : List ℕ) (script : scriptOf s′ ≡ scriptOf s) where
   steady-check (Checked.no-scratch l n) o more loads lent = absurd o
   steady-check (walked {units = u} {v = v} l n t e d) o more loads lent = walked-more {units = u} t e d (says-other v (rw (← e) at o)) more loads lent
 
-  pub steady-check-replies : {work work′ : List ℕ} {R R′ : Reply} → CheckReply s work R → Says (R .answer) → sheetOf s .checkFuel ≤ sheetOf s′ .checkFuel → Loads s′ done → sheetOf s′ .checkFuel ≤ rowsLent work′
+  pub steady-check-replies : {work work′ : List ℕ} {R R′ : Reply} → CheckReply s work R → Says (R .answer) → sheetOf s .checkFuel ≤ sheetOf s′ .checkFuel → Loads s′ done
+      → sheetOf s′ .checkFuel ≤ rowsLent work′
       → CheckReply s′ work′ R′ → (R′ .answer ≡ R .answer) × (R′ .checkUnits ≡ R .checkUnits)
   steady-check-replies {work′ = work′} r o more loads lent r′ = one-check s′ work′ (r′ .said) (steady-check (r .said) o more loads lent)
 
@@ -141,7 +176,8 @@ module _ (S : Script) (G : Grove) (c r c′ r′ : ℕ) where
   within-limit : c′ ≤ most-fuel → r′ ≤ most-fuel → limits-ok (sheet S G c r) ≡ true → limits-ok (sheet S G c′ r′) ≡ true
   unfolding limits-ok
   within-limit h k e = and-both (counts-ok S G && leb c′ most-fuel) (leb r′ most-fuel)
-      (and-both (counts-ok S G) (leb c′ most-fuel) (and-left (counts-ok S G) (leb c most-fuel) (and-left (counts-ok S G && leb c most-fuel) (leb r most-fuel) e)) (le-leb c′ most-fuel h)) (le-leb r′ most-fuel k)
+      (and-both (counts-ok S G) (leb c′ most-fuel) (and-left (counts-ok S G) (leb c most-fuel) (and-left (counts-ok S G && leb c most-fuel) (leb r most-fuel) e)) (le-leb c′ most-fuel h))
+      (le-leb r′ most-fuel k)
 
   types-too : types-ok (sheet S G c r) ≡ types-ok (sheet S G c′ r′)
   unfolding types-ok
@@ -161,8 +197,10 @@ module _ (S : Script) (G : Grove) (c r c′ r′ : ℕ) where
 
   other-fuels : shaped (sheet S G c r) ≡ true → c′ ≤ most-fuel → r′ ≤ most-fuel → shaped (sheet S G c′ r′) ≡ true
   unfolding names-ok procedures-ok roots-ok users-ok type-users query-users statement-users row-users
-  other-fuels e h k = other-first (limits-ok (sheet S G c r)) (limits-ok (sheet S G c′ r′)) (types-ok (sheet S G c′ r′)) (queries-ok (sheet S G c′ r′)) (statements-ok (sheet S G c′ r′)) (rows-ok (sheet S G c′ r′))
-      (names-ok (sheet S G c r)) (procedures-ok (sheet S G c r)) (roots-ok (sheet S G c r)) (users-ok (sheet S G c r)) (scope-ok S) (rw (types-too, queries-too, statements-too, rows-too) at e) (within-limit h k)
+  other-fuels e h k = other-first (limits-ok (sheet S G c r)) (limits-ok (sheet S G c′ r′)) (types-ok (sheet S G c′ r′)) (queries-ok (sheet S G c′ r′)) (statements-ok (sheet S G c′ r′))
+      (rows-ok (sheet S G c′ r′))
+      (names-ok (sheet S G c r)) (procedures-ok (sheet S G c r)) (roots-ok (sheet S G c r)) (users-ok (sheet S G c r)) (scope-ok S) (rw (types-too, queries-too, statements-too, rows-too) at e)
+      (within-limit h k)
 
 -- ---- sheets that differ in their fuels only: words 11 and 12
 
@@ -245,7 +283,8 @@ module _ (s : List ℕ) (k w : ℕ) where
 
   with-same : 2 * k + 1 < length s → w < 65536 → wordAt (withWord s k w) k ≡ w
   with-same long small =
-      let low : getD (withWord s k w) (2 * k) 0 ≡ w % 256 = getD-set-other (set s (2 * k) (w % 256)) (2 * k + 1) (2 * k) (w / 256 % 256) 0 (omega arith) ∙ getD-set-same s (2 * k) (w % 256) 0 (omega arith) in
+      let low : getD (withWord s k w) (2 * k) 0 ≡ w % 256 = getD-set-other (set s (2 * k) (w % 256)) (2 * k + 1) (2 * k) (w / 256 % 256) 0 (omega arith)
+      ∙ getD-set-same s (2 * k) (w % 256) 0 (omega arith) in
       let high : getD (withWord s k w) (2 * k + 1) 0 ≡ w / 256 % 256 = getD-set-same (set s (2 * k) (w % 256)) (2 * k + 1) (w / 256 % 256) 0 (rw length-set long) in
       omega arith
 
@@ -318,7 +357,8 @@ module _ (s : List ℕ) (loads : Loads s done) (w : ℕ) (limit : w ≤ most-fue
 
 -- ---- so: every greater run fuel up to the limit (the check's, and the run's over another slice: Replies)
 
-pub every-run-fuel : {s work result after : List ℕ} {u root : ℕ} (work′ : List ℕ) (w : ℕ) → Ran s work result done u root after → sheetOf s .runFuel ≤ w → w ≤ most-fuel → groveOf s .rows + w ≤ rowsLent work′
+pub every-run-fuel : {s work result after : List ℕ} {u root : ℕ} (work′ : List ℕ) (w : ℕ) → Ran s work result done u root after → sheetOf s .runFuel ≤ w → w ≤ most-fuel
+    → groveOf s .rows + w ≤ rowsLent work′
     → Ran (withRunFuel s w) work′ result done u root after
 every-run-fuel {s} work′ w r more limit lent =
     let l = ran-loads r in let g = alike-grove s (withRunFuel s w) (run-alike s l w limit) in let k = run-fuel-is s l w limit in

@@ -12,8 +12,47 @@ use borrow.Author.Tests.{le-leb, eqb-true, eq-eqb}
 use Rattle.meaning.specs.Limits.{most-blocks}
 use Rattle.meaning.specs.Words.{wordAt, wordBytes}
 use Rattle.meaning.specs.Sheet.{Sheet, need, scriptOf, groveOf, sheetOf}
-use Rattle.meaning.specs.Shape.{wordOk, types-ok, queries-ok, statements-ok, rows-ok, names-ok, procedures-ok, roots-ok, limits-ok, type-users, query-users, statement-users, row-users, users-ok, shaped, whole, shapely}
-use Rattle.meaning.specs.Bundle.{wordSum, checkWord, filled, blockFront, block, blocks, sheetBytes, blocksFor, bundleOf, block-bytes, blockCount, blockAt, payload, payloadOf, sheetIn, numbers-ok, checks-ok, count-ok, all-zero, framed}
+use Rattle.meaning.specs.Shape.{
+  wordOk,
+  types-ok,
+  queries-ok,
+  statements-ok,
+  rows-ok,
+  names-ok,
+  procedures-ok,
+  roots-ok,
+  limits-ok,
+  type-users,
+  query-users,
+  statement-users,
+  row-users,
+  users-ok,
+  shaped,
+  whole,
+  shapely,
+}
+use Rattle.meaning.specs.Bundle.{
+  wordSum,
+  checkWord,
+  filled,
+  blockFront,
+  block,
+  blocks,
+  sheetBytes,
+  blocksFor,
+  bundleOf,
+  block-bytes,
+  blockCount,
+  blockAt,
+  payload,
+  payloadOf,
+  sheetIn,
+  numbers-ok,
+  checks-ok,
+  count-ok,
+  all-zero,
+  framed,
+}
 use Rattle.meaning.specs.Reply.{Refusal, shape, room, done, Copied, copy-if, copied-in, read, write}
 use Rattle.meaning.specs.Laws.Bools.{and-left, and-right, and-both}
 use Rattle.meaning.specs.Laws.Tests.{every-at, every-all}
@@ -211,7 +250,8 @@ module _ (b p : List ℕ) (m n : ℕ) (long : length b ≡ 512 * m) (pays : payl
       let some = le-leb 1 (blockCount b) (omega arith) in
       let most = le-leb (blockCount b) 88 (omega arith) in
       let numbers = every-all (λ k. eqb (wordAt (blockAt b k) 0) k) (blockCount b) (λ k p q. eq-eqb (wordAt (blockAt b k) 0) k (right k p (omega arith) .0)) in
-      let checks = every-all (λ k. eqb (wordAt (blockAt b k) 255) (checkWord (blockAt b k))) (blockCount b) (λ k p q. eq-eqb (wordAt (blockAt b k) 255) (checkWord (blockAt b k)) (right k p (omega arith) .1)) in
+      let checks = every-all (λ k. eqb (wordAt (blockAt b k) 255) (checkWord (blockAt b k))) (blockCount b)
+      (λ k p q. eq-eqb (wordAt (blockAt b k) 255) (checkWord (blockAt b k)) (right k p (omega arith) .1)) in
       let count = eq-eqb (blockCount b) (blocksFor (need (payloadOf b))) (count-is ∙ parts ∙ ap blocksFor (sym need-is)) in
       let padding = ap (λ (x : ℕ). all-zero (drop x (payloadOf b))) need-is ∙ ap (λ (x : List ℕ). all-zero (drop n x)) payload-is ∙ zeros in
       search and-both depth 14
@@ -306,7 +346,12 @@ framed-says b e =
 length-payload : (m : ℕ) (b : List ℕ) → length b ≡ 512 * m → length (payload m b) ≡ 508 * m
 unfolding payload
 length-payload zero b e = refl
-length-payload (suc m) b e = omega (arith, length-append (take 508 (drop 2 b)) (payload m (drop 512 b)), length-take-le 508 (drop 2 b) (omega (arith, length-drop 2 b)), length-payload m (drop 512 b) (omega (arith, length-drop 512 b)))
+length-payload (suc m) b e = omega (
+  arith,
+  length-append (take 508 (drop 2 b)) (payload m (drop 512 b)),
+  length-take-le 508 (drop 2 b) (omega (arith, length-drop 2 b)),
+  length-payload m (drop 512 b) (omega (arith, length-drop 512 b)),
+)
 
 payload-long : (b : List ℕ) (m n : ℕ) → Framed b (payload m b) m n → n ≤ length (payload m b)
 payload-long b m n f = omega (arith, length-payload m b (f .long), f .parts)
@@ -364,7 +409,8 @@ pub write-if : (s lent : List ℕ) → shapely s ≡ true → block-bytes * bloc
 unfolding write
 write-if s lent e l =
     let inner = copy-if (leb (block-bytes * blocksFor (need s)) (length lent)) room (copied-in (bundleOf s) lent) lent in
-    copies (shapely s) shape inner lent e ∙ copies (leb (block-bytes * blocksFor (need s)) (length lent)) room (copied-in (bundleOf s) lent) lent (le-leb (block-bytes * blocksFor (need s)) (length lent) l)
+    copies (shapely s) shape inner lent e ∙ copies (leb (block-bytes * blocksFor (need s)) (length lent)) room (copied-in (bundleOf s) lent) lent
+    (le-leb (block-bytes * blocksFor (need s)) (length lent) l)
 
 rewritten : (b s : List ℕ) (m n : ℕ) → Framed b (payload m b) m n → need (payload m b) ≡ n → take n s ≡ take n (payload m b)
     → (lent : List ℕ) → Bytes b → n ≤ length s → shapely (take n (payload m b)) ≡ true → length b ≤ length lent → write s lent ≡ copied-in b lent

@@ -1,5 +1,6 @@
 -- Inclusion of types is decided by the pairs of points that are reached: for a wanted type that is a declared type or a content of a sheet that passes 2 to 4, or (), text or bool,
--- and a found type at a row of that sheet, at a row of a table beside it, or any type over its names. The found places live, for no name is barren; the wanted points are free of ties; what the points admit is what is of the types.
+-- and a found type at a row of that sheet, at a row of a table beside it, or any type over its names. The found places live, for no name is barren; the wanted points are free of ties; what the
+-- points admit is what is of the types.
 use Prim.Native.Nat.{ℕ, zero, suc, _≤_}
 use mathlib.Core.Path.{_≡_, refl}
 use mathlib.Core.Bool.{true, _||_, cond}

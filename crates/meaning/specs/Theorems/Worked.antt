@@ -30,7 +30,36 @@ pub mod Trials
 use Sheets.{Row, row, joined, s1, s5, s6, s6-star, s7, s8, s8-star, s9, s10, s11, s12, loop}
 use Ties.{untied}
 use Ties.{tie as tie-of}
-use Stated.{tables, shape, ties, runs, checks, frames, a, b, c, d, leaf, tip, trees, Does, Refuses, Checks, Walks, no-names, one-name, loads, does, refuses, Passing, settles, answers-by, answers, in-itself, lent}
+use Stated.{
+  tables,
+  shape,
+  ties,
+  runs,
+  checks,
+  frames,
+  a,
+  b,
+  c,
+  d,
+  leaf,
+  tip,
+  trees,
+  Does,
+  Refuses,
+  Checks,
+  Walks,
+  no-names,
+  one-name,
+  loads,
+  does,
+  refuses,
+  Passing,
+  settles,
+  answers-by,
+  answers,
+  in-itself,
+  lent,
+}
 
 -- ---- the statements
 
@@ -117,7 +146,7 @@ whole = s1 4096 4096
 abbrev pub Printed : Type 0
 Printed = Tells (bundleOf whole) (all-done 38 33 7 (bytesOf (joined seven) ++ drop 56 lent-result))
     × ((rest : List ℕ) → listing (all-done 38 33 7 (bytesOf (joined seven) ++ rest))
-        ≡ codes "check 0 38\nfit 0\nrun 0 33 7\n1 4 4 0 0\n2 4 3 0 0\n3 4 2 0 2\n4 4 3 0 3\n5 4 3 0 4\n6 4 2 0 5\n7 4 1 6 1\n")
+    ≡ codes "check 0 38\nfit 0\nrun 0 33 7\n1 4 4 0 0\n2 4 3 0 0\n3 4 2 0 2\n4 4 3 0 3\n5 4 3 0 4\n6 4 2 0 5\n7 4 1 6 1\n")
 
 -- what the theorems assume, met together by one sheet: it passes 2 to 4, check passes it, its forest is of A
 pub record Met (s work : List ℕ) : Type 0 where
@@ -235,11 +264,12 @@ ok7-back = loads (s7 9 3) refl refl refl
 p7 : P7
 unfolding s7 checks
 p7 = (
-    (λ names f o. star-left names o),
-    (λ names. (b-is names, λ o. b-is-not names o refl)),
-    not-back,
-    answers ok7 4095 (holds (leb-true 3 most-width refl) (λ f o. star-left _ o), tt) refl refl refl,
-    answers-by ok7-back 4095 (paid (walk.refused (fails (leb-true 6 most-width refl) (not-back _)))) refl refl)
+  (λ names f o. star-left names o),
+  (λ names. (b-is names, λ o. b-is-not names o refl)),
+  not-back,
+  answers ok7 4095 (holds (leb-true 3 most-width refl) (λ f o. star-left _ o), tt) refl refl refl,
+  answers-by ok7-back 4095 (paid (walk.refused (fails (leb-true 6 most-width refl) (not-back _)))) refl refl,
+)
 
 -- ---- P8
 
@@ -259,10 +289,11 @@ some-of-X = (only (leaf a), of-name (of-label of-none))
 p8 : P8
 unfolding s8 s8-star shape ties
 p8 = (
-    none-of-X,
-    is-barren refl lowest-X,
-    some-of-X,
-    sound refl (one-name s8-star refl some-of-X) (untied (scriptOf s8-star) refl))
+  none-of-X,
+  is-barren refl lowest-X,
+  some-of-X,
+  sound refl (one-name s8-star refl some-of-X) (untied (scriptOf s8-star) refl),
+)
 
 -- ---- P9 to P12
 
@@ -326,8 +357,8 @@ of-A-whole : Of (namesIn (scriptOf whole)) (declared (scriptOf whole) (scriptOf 
 unfolding whole s1 checks runs
 of-A-whole = of-seq {f = only (Tree.node a (trees (leaf b ∷ leaf c ∷ leaf b ∷ [])))} {g = only (leaf d)}
     (of-label (of-seq {f = only (leaf b)} {g = trees (leaf c ∷ leaf b ∷ [])}
-        (of-more {f = only (leaf b)} {g = nil} (of-label of-empty) of-none)
-        (of-seq {f = only (leaf c)} {g = only (leaf b)} (of-label of-empty) (of-more {f = only (leaf b)} {g = nil} (of-label of-empty) of-none))))
+    (of-more {f = only (leaf b)} {g = nil} (of-label of-empty) of-none)
+    (of-seq {f = only (leaf c)} {g = only (leaf b)} (of-label of-empty) (of-more {f = only (leaf b)} {g = nil} (of-label of-empty) of-none))))
     (of-label of-empty)
 
 fit-whole : Fitted whole (scriptOf whole .a) done
@@ -360,9 +391,10 @@ read-whole = refl
 printed : Printed
 unfolding tables listing codes digits fields row-lines
 printed = (
-    told {u = 38} {v = 33} {root = 7} {after = bytesOf (joined seven) ++ drop 56 lent-result} framed-whole (rw read-whole (check-whole lent-work check-room))
-        (rw read-whole fit-whole) (rw read-whole (run-whole .reply lent-work lent-result run-room result-room)),
-    λ rest. refl)
+  told {u = 38} {v = 33} {root = 7} {after = bytesOf (joined seven) ++ drop 56 lent-result} framed-whole (rw read-whole (check-whole lent-work check-room))
+      (rw read-whole fit-whole) (rw read-whole (run-whole .reply lent-work lent-result run-room result-room)),
+  λ rest. refl,
+)
 
 applies : Applied whole lent-work (replicate 64 9) done 38 33 7 (bytesOf (joined seven) ++ replicate 8 9)
 applies = applied (check-whole lent-work check-room) fit-whole (run-whole .reply lent-work (replicate 64 9) run-room (leb-true 7 8 refl))
@@ -371,7 +403,18 @@ applies = applied (check-whole lent-work check-room) fit-whole (run-whole .reply
 
 pub worked : Worked
 worked = record {
-  p1 = p1; p2 = p2; p3 = p3; p4 = p4; p5 = p5; p6 = p6; p7 = p7; p8 = p8; p9 = p9; p10 = p10; p11 = p11; p12 = p12;
+  p1 = p1;
+  p2 = p2;
+  p3 = p3;
+  p4 = p4;
+  p5 = p5;
+  p6 = p6;
+  p7 = p7;
+  p8 = p8;
+  p9 = p9;
+  p10 = p10;
+  p11 = p11;
+  p12 = p12;
   recursion = recursion;
   printed = printed;
   met = record { loaded = ok-whole; checked = check-whole lent-work check-room; fitted = fit-whole; of-A = of-A-whole };

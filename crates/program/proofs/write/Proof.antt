@@ -1,3 +1,4 @@
+-- Made by tools/cycle from tools/answers/program/write: change that, and run tools/proofs program.
 -- `program::write` is safe: the listing lies in its room.
 use mathlib.Core.Path.{sym}
 use lib.Seq.{length-take-le}

@@ -6,7 +6,7 @@ use Rattle.shape.proofs.is_named.Statement.{statement}
 use Rattle.shape.proofs.is_named.Tie as tie
 use Rattle.shape.proofs.is_named.Reads as reads
 use Rattle.shape.proofs.is_named.Lts as lts
-use Rattle.kinds.proofs.in_table.Reads as in-table-reads
+use Rattle.shape_kinds.proofs.in_table.Reads as in-table-reads
 use Rattle.sheet.proofs.name_row.Reads as name-row-reads
 use Rattle.sheet.proofs.type_row.Reads as type-row-reads
 

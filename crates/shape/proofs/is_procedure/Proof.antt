@@ -7,7 +7,7 @@ use Rattle.shape.proofs.is_procedure.Statement.{statement}
 use Rattle.shape.proofs.is_procedure.Tie as tie
 use Rattle.shape.proofs.is_procedure.Reads as reads
 use Rattle.shape.proofs.is_procedure.Lts as lts
-use Rattle.kinds.proofs.in_table.Reads as in-table-reads
+use Rattle.shape_kinds.proofs.in_table.Reads as in-table-reads
 use Rattle.shape.proofs.in_order.Reads as in-order-reads
 
 returns : tie.Need-returns

@@ -6,7 +6,7 @@ use Rattle.shape.proofs.roots_ok.Statement.{statement}
 use Rattle.shape.proofs.roots_ok.Tie as tie
 use Rattle.shape.proofs.roots_ok.Reads as reads
 use Rattle.shape.proofs.roots_ok.Lts as lts
-use Rattle.kinds.proofs.in_table.Reads as in-table-reads
+use Rattle.shape_kinds.proofs.in_table.Reads as in-table-reads
 
 in-table-requires : tie.Need-in-table-requires
 in-table-requires c κs = search needs

@@ -9,7 +9,7 @@ use Rattle.shape.proofs.shapely.Statement.{statement}
 use Rattle.shape.proofs.shapely.Tie as tie
 use Rattle.shape.proofs.shapely.Reads as reads
 use Rattle.shape.proofs.shapely.Lts as lts
-use Rattle.scope.proofs.scope_ok.Reads as scope-ok-reads
+use Rattle.shape_scope.proofs.scope_ok.Reads as scope-ok-reads
 use Rattle.shape.proofs.tables_ok.Reads as tables-ok-reads
 use Rattle.sheet.proofs.lay_out.Reads as lay-out-reads
 use Rattle.sheet.proofs.need_of.Reads as need-of-reads

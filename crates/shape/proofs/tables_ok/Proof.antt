@@ -5,15 +5,15 @@ use Rattle.shape.proofs.tables_ok.Statement.{statement}
 use Rattle.shape.proofs.tables_ok.Tie as tie
 use Rattle.shape.proofs.tables_ok.Reads as reads
 use Rattle.shape.proofs.tables_ok.Lts as lts
-use Rattle.kinds.proofs.queries_ok.Reads as queries-ok-reads
-use Rattle.kinds.proofs.rows_ok.Reads as rows-ok-reads
-use Rattle.kinds.proofs.statements_ok.Reads as statements-ok-reads
-use Rattle.kinds.proofs.types_ok.Reads as types-ok-reads
+use Rattle.shape_kinds.proofs.queries_ok.Reads as queries-ok-reads
+use Rattle.shape_kinds.proofs.rows_ok.Reads as rows-ok-reads
+use Rattle.shape_kinds.proofs.statements_ok.Reads as statements-ok-reads
+use Rattle.shape_kinds.proofs.types_ok.Reads as types-ok-reads
 use Rattle.shape.proofs.limits_ok.Reads as limits-ok-reads
 use Rattle.shape.proofs.names_ok.Reads as names-ok-reads
 use Rattle.shape.proofs.procedures_ok.Reads as procedures-ok-reads
 use Rattle.shape.proofs.roots_ok.Reads as roots-ok-reads
-use Rattle.users.proofs.users_ok.Reads as users-ok-reads
+use Rattle.shape_users.proofs.users_ok.Reads as users-ok-reads
 
 limits-ok-requires : tie.Need-limits-ok-requires
 limits-ok-requires c κs = tt

@@ -1,3 +1,4 @@
+-- Made by tools/cycle from tools/answers/within/declared: change that, and run tools/proofs within.
 -- `within::declared` meets its contract: the type is written out, its points are taken, and whether it lies within the row is the answer.
 use Rattle.meaning.specs.Sheet.{Cells, scriptOf}
 use mathlib.Core.Path.{refl, sym, ap, _∙_}
@@ -7,9 +8,9 @@ use Rattle.meaning.specs.Laws.Tests.{table-high}
 use Rattle.meaning.specs.Laws.Shaped.{few-types}
 use Rattle.meaning.specs.Theorems.Sound.Written.{loads-shapely}
 use Rattle.sheet.specs.Whole.{whole-loads}
-use Rattle.written.specs.Writing.{own-lies}
-use Rattle.places.specs.Tables.{clear-zeros}
-use Rattle.points.specs.Joined.{own-rows, own-apart}
+use Rattle.type_rows.specs.Writing.{own-lies}
+use Rattle.type_places.specs.Tables.{clear-zeros}
+use Rattle.type_tables.specs.Joined.{own-rows, own-apart}
 use Rattle.within.specs.Answers.{answers-wide, own-standing, lies-holds, lies-fails}
 use Rattle.within.specs.Short.{itself, empty-holds, empty-fails, lies-alike}
 use borrow.Author.Needs.{needs}

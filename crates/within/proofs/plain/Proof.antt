@@ -1,8 +1,9 @@
+-- Made by tools/cycle from tools/answers/within/plain: change that, and run tools/proofs within.
 -- `within::plain` meets its contract: the type is written out, and its sum is the answer.
 use mathlib.Core.Path.{refl, sym, _∙_}
 use native.Mathlib.Omega.{arith}
 use Rattle.sheet.specs.Whole.{whole-loads}
-use Rattle.written.specs.Writing.{own-lies}
+use Rattle.type_rows.specs.Writing.{own-lies}
 use Rattle.within.specs.Answers.{answers-wide}
 use Rattle.within.specs.Plain.{blank-low, plain-holds, plain-fails}
 use borrow.Author.Needs.{needs}

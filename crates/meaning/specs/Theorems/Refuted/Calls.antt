@@ -141,7 +141,12 @@ skipping types a b rows checkFuel runFuel = sheet (record {
   procedures = [];
   rows = rows;
   pool = [];
-  a = a; b = b; main = 1; root = length rows; checkFuel = checkFuel; runFuel = runFuel;
+  a = a;
+  b = b;
+  main = 1;
+  root = length rows;
+  checkFuel = checkFuel;
+  runFuel = runFuel;
 })
 
 -- from () to (), on ()
@@ -160,5 +165,10 @@ barren-tied = sheet (record {
   procedures = [];
   rows = [];
   pool = [];
-  a = 8; b = 9; main = 1; root = 0; checkFuel = 4096; runFuel = 4096;
+  a = 8;
+  b = 9;
+  main = 1;
+  root = 0;
+  checkFuel = 4096;
+  runFuel = 4096;
 })

@@ -134,7 +134,12 @@ both-wrong = sheet (record {
   procedures = pr 3 0 4 5 1 ∷ [];
   rows = [];
   pool = [];
-  a = 2; b = 6; main = 2; root = 0; checkFuel = 4096; runFuel = 4096;
+  a = 2;
+  b = 6;
+  main = 2;
+  root = 0;
+  checkFuel = 4096;
+  runFuel = 4096;
 })
 
 ok-both-wrong : Loads both-wrong done
@@ -157,7 +162,12 @@ three-renames = sheet (record {
   procedures = pr 0 0 1 2 1 ∷ pr 0 0 3 4 2 ∷ [];
   rows = [];
   pool = [];
-  a = 5; b = 6; main = 3; root = 0; checkFuel = 4096; runFuel = 4096;
+  a = 5;
+  b = 6;
+  main = 3;
+  root = 0;
+  checkFuel = 4096;
+  runFuel = 4096;
 })
 
 ok-renames : Loads three-renames done

@@ -275,7 +275,12 @@ two-barren = sheet (record {
   procedures = [];
   rows = [];
   pool = [];
-  a = 5; b = 6; main = 1; root = 0; checkFuel = 4096; runFuel = 4096;
+  a = 5;
+  b = 6;
+  main = 1;
+  root = 0;
+  checkFuel = 4096;
+  runFuel = 4096;
 })
 
 none-of-1 : Barren (namesIn (scriptOf two-barren)) 1

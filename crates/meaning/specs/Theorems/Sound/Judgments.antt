@@ -13,9 +13,96 @@ use Rattle.meaning.specs.Kinds.{Query, Test, Statement, queryAt, stateme
 use Rattle.meaning.specs.Forest.{Text, Tree, Forest, nil, cons, only, _⊕_, count}
 use Rattle.meaning.specs.Types.{Ty, Named, Of, of-empty, of-text, of-bool, of-label, of-seq, of-left, of-right, of-none, of-more, of-name, Atom, atomOf, namesIn}
 use Rattle.meaning.specs.Walk.{Stop, depth, wide, mismatch, outside, stuck, Place, ret, _>>=_, pay, Quiet, Unasked, Verdict, gives, fuel, stops, settle}
-use Rattle.meaning.specs.Run.{Env, seen, Fate, misfit, matched, passed, tested, inside, kept, copied, each, branch, same-texts, query-of, insert-of, rename-of, test-of, children-of, arguments, statement-of, query, statement}
+use Rattle.meaning.specs.Run.{
+  Env,
+  seen,
+  Fate,
+  misfit,
+  matched,
+  passed,
+  tested,
+  inside,
+  kept,
+  copied,
+  each,
+  branch,
+  same-texts,
+  query-of,
+  insert-of,
+  rename-of,
+  test-of,
+  children-of,
+  arguments,
+  statement-of,
+  query,
+  statement,
+}
 use Rattle.meaning.specs.Check.{Types, tests, declaration, body}
-use Rattle.meaning.specs.Figures.{k-none, k-tree, k-other, Atomic, is-text, is-bool, is-label, is-name, Picks, p-empty, p-kept, p-away, p-seq, p-choice, p-star, Has, h-empty, h-join, h-tree, h-text, h-bool, h-variable, h-let, h-if, h-same, h-children, h-pick, h-for, HasEach, e-empty, e-atom, e-seq, e-choice, e-star, HasAll, has-none, has-more, Lie, lie-none, lie-more, Typed, y-skip, y-then, y-if, y-insert, y-delete, y-rename, y-let, y-snapshot, y-test, y-pass, y-children, y-left, y-right, y-iter, y-call, TypedEach, i-empty, i-atom, i-seq, i-choice, i-star, Passes}
+use Rattle.meaning.specs.Figures.{
+  k-none,
+  k-tree,
+  k-other,
+  Atomic,
+  is-text,
+  is-bool,
+  is-label,
+  is-name,
+  Picks,
+  p-empty,
+  p-kept,
+  p-away,
+  p-seq,
+  p-choice,
+  p-star,
+  Has,
+  h-empty,
+  h-join,
+  h-tree,
+  h-text,
+  h-bool,
+  h-variable,
+  h-let,
+  h-if,
+  h-same,
+  h-children,
+  h-pick,
+  h-for,
+  HasEach,
+  e-empty,
+  e-atom,
+  e-seq,
+  e-choice,
+  e-star,
+  HasAll,
+  has-none,
+  has-more,
+  Lie,
+  lie-none,
+  lie-more,
+  Typed,
+  y-skip,
+  y-then,
+  y-if,
+  y-insert,
+  y-delete,
+  y-rename,
+  y-let,
+  y-snapshot,
+  y-test,
+  y-pass,
+  y-children,
+  y-left,
+  y-right,
+  y-iter,
+  y-call,
+  TypedEach,
+  i-empty,
+  i-atom,
+  i-seq,
+  i-choice,
+  i-star,
+  Passes,
+}
 use Rattle.meaning.specs.Laws.Bools.{never}
 use Rattle.meaning.specs.Laws.Figures.{tested-matches, tested-differs, kept-one, no-atom, labelled-atom, matches-atom, matches-tests, differs-tests}
 use Rattle.meaning.specs.Laws.Tests.{table-low, table-high}
@@ -224,7 +311,8 @@ module _ (names : ℕ → Named) where
   unfolding rename-of seen
   good-rename at l τ o n σ e = let x = labelled τ o n σ e in rw (x .1) (good-copy _ 1 _ (of-label (x .2)))
 
-  good-children : (at : Place) (go : Forest → Quiet Forest) (τ : Ty) {f : Forest} → Of names τ f → (n : ℕ) (σ ρ : Ty) → atomOf names τ ≡ Atom.label n σ → ((g : Forest) → Of names σ g → Good (Of names ρ) (go g)) → Good (Of names (Ty.label n ρ)) (children-of at (seen f) go)
+  good-children : (at : Place) (go : Forest → Quiet Forest) (τ : Ty) {f : Forest} → Of names τ f → (n : ℕ) (σ ρ : Ty) → atomOf names τ ≡ Atom.label n σ
+      → ((g : Forest) → Of names σ g → Good (Of names ρ) (go g)) → Good (Of names (Ty.label n ρ)) (children-of at (seen f) go)
   unfolding children-of seen
   good-children at go τ o n σ ρ e h = let x = labelled τ o n σ e in rw (x .1) (good-then (Of names ρ) _ (go (x .0)) _ (h (x .0) (x .2)) λ y u. good-copy _ 1 _ (of-label u))
 
@@ -336,16 +424,19 @@ module _ (S : Script) (byte : ℕ → ℕ) where
       good-statement i f (y-let {p = p} {q = q} {ρ = ρ} {τ = τ} {σ = σ} e a b) o = row-does _ i f _ e (
           good-then (Is ρ) _ (asks γ p) _ (ah Γ γ p ρ a env) λ x u. ih (Γ ++ ρ ∷ []) (γ ++ x ∷ []) q τ σ f b (fit-also (namesIn S) env u) o)
       good-statement i f (y-snapshot {p = p} {τ = τ} {σ = σ} e a) o = row-does _ i f _ e (ih (Γ ++ τ ∷ []) (γ ++ f ∷ []) p τ σ f a (fit-also (namesIn S) env o) o)
-      good-statement i f (y-test {r = r} {t = t} {τ = τ} {σ = σ} e m a) o = row-does _ i f _ e (good-matched (Is σ) _ (is-matched (namesIn S) τ o t (matches-tests (namesIn S) m)) f (go γ r) (ih Γ γ r τ σ f a env o))
+      good-statement i f (y-test {r = r} {t = t} {τ = τ} {σ = σ} e m a) o =
+          row-does _ i f _ e (good-matched (Is σ) _ (is-matched (namesIn S) τ o t (matches-tests (namesIn S) m)) f (go γ r) (ih Γ γ r τ σ f a env o))
       good-statement i f (y-pass {r = r} {t = t} {τ = τ} e m) o = row-does _ i f _ e (good-passed (Is τ) _ (is-passed (namesIn S) τ o t (differs-tests (namesIn S) m)) f (go γ r) o)
-      good-statement i f (y-children {p = p} {n = n} {α = α} {τ = τ} {σ = σ} e m a) o = row-does _ i f _ e (good-children (namesIn S) _ (go γ p) α o n τ σ (labelled-atom (namesIn S) m) λ g u. ih Γ γ p τ σ g a env u)
+      good-statement i f (y-children {p = p} {n = n} {α = α} {τ = τ} {σ = σ} e m a) o =
+          row-does _ i f _ e (good-children (namesIn S) _ (go γ p) α o n τ σ (labelled-atom (namesIn S) m) λ g u. ih Γ γ p τ σ g a env u)
       good-statement i f (y-left {p = p} {σ = σ} e a) o = row-does _ i f _ e (good-then (Is σ) _ (go γ p nil) _ (ih Γ γ p Ty.empty σ nil a env of-empty) λ x u. good-copy _ (count x) _ (of-seq u o))
       good-statement i f (y-right {p = p} {σ = σ} e a) o = row-does _ i f _ e (good-then (Is σ) _ (go γ p nil) _ (ih Γ γ p Ty.empty σ nil a env of-empty) λ x u. good-copy _ (count f) _ (of-seq o u))
       good-statement i f (y-iter {p = p} e a) o = row-does _ i f _ e (good-iter p a o)
       good-statement i f (y-call {c = c} {l = l} {m = m} {σ = σ} e w a k d) o = row-does _ i f _ e (
           let n = named i c l e in let b = procedures c (table-low _ c n) (table-high _ c n) in
           good-then (λ x. Values x m) _ (arguments (asks γ) l) _ (good-arguments asks ah Γ γ env a) λ x u.
-          good-map (Is (b .output)) _ (go x (S .procedureRow c .body) f) (ih (declaration S c .parameters) x (S .procedureRow c .body) (declaration S c .input) (b .output) f (b .typed) (lying k u) (w f o)) λ y v. rw (← d) (b .lies y v))
+          good-map (Is (b .output)) _ (go x (S .procedureRow c .body) f)
+          (ih (declaration S c .parameters) x (S .procedureRow c .body) (declaration S c .input) (b .output) f (b .typed) (lying k u) (w f o)) λ y v. rw (← d) (b .lies y v))
 
     statement-good : (d : ℕ) (Γ : Types) (γ : Env) (i : ℕ) (τ σ : Ty) (f : Forest) → Typed S Γ i τ σ → Values γ Γ → Is τ f → Good (Is σ) (statement S byte d γ i f)
     unfolding statement Safe

@@ -9,7 +9,34 @@ use Rattle.meaning.specs.Kinds.{Query, Test, Statement, queryAt, stateme
 use Rattle.meaning.specs.Types.{Ty, Named, Atom, atomOf, declared, namesIn}
 use Rattle.meaning.specs.Walk.{Stop, depth, wide, mismatch, outside, stuck, Place, of-query, of-statement, stop, ret, _>>=_, Verdict, gives, fuel, stops}
 use Rattle.meaning.specs.Run.{Fate, misfit, matched, passed, arguments}
-use Rattle.meaning.specs.Check.{Question, Number, eight, nine, unmet, Judged, too-wide, fails, Asking, Types, parts, tests, picked, inside-type, rename-type, children-type, test-type, ask-all, query-type, statement-type, declaration, infer, typing, body, bodies, check-walk}
+use Rattle.meaning.specs.Check.{
+  Question,
+  Number,
+  eight,
+  nine,
+  unmet,
+  Judged,
+  too-wide,
+  fails,
+  Asking,
+  Types,
+  parts,
+  tests,
+  picked,
+  inside-type,
+  rename-type,
+  children-type,
+  test-type,
+  ask-all,
+  query-type,
+  statement-type,
+  declaration,
+  infer,
+  typing,
+  body,
+  bodies,
+  check-walk,
+}
 use Rattle.meaning.specs.Reply.{Refusal, Answer, refused, verdict-answer, Loads, misshapen, is-barren, is-tied, sound, Checked, walked, Fitted, no-row, fits, misfits}
 use Rattle.meaning.specs.Laws.Walk.{Fair, Safe, safe-fair, safe-then}
 use Rattle.meaning.specs.Laws.Bools.{never}
@@ -112,7 +139,8 @@ module _ (S : Script) where
     calm-arguments [] = tt
     calm-arguments (q ∷ l) = calm-then (asks Γ q) _ (ah Γ q) λ x. calm-then (arguments (asks Γ) l) _ (calm-arguments l) λ y. tt
 
-    calm-statement : (go : Types → ℕ → Ty → Asking Ty) → ((Γ : Types) (p : ℕ) (τ : Ty) → Calm (go Γ p τ)) → (τ : Ty) (c : Statement) → Calm (statement-type (namesIn S) (declaration S) c i go asks Γ τ)
+    calm-statement : (go : Types → ℕ → Ty → Asking Ty) → ((Γ : Types) (p : ℕ) (τ : Ty) → Calm (go Γ p τ)) → (τ : Ty) (c : Statement)
+        → Calm (statement-type (namesIn S) (declaration S) c i go asks Γ τ)
     unfolding statement-type Safe
     calm-statement go h τ Statement.none = tt
     calm-statement go h τ Statement.skip = tt
@@ -128,7 +156,11 @@ module _ (S : Script) where
     calm-statement go h τ (Statement.left p) = calm-then (go Γ p Ty.empty) _ (h Γ p Ty.empty) λ x. tt
     calm-statement go h τ (Statement.right p) = calm-then (go Γ p Ty.empty) _ (h Γ p Ty.empty) λ x. tt
     calm-statement go h τ (Statement.iter p) = calm-parts (go Γ p) (h Γ p) τ
-    calm-statement go h τ (Statement.call c l) = (tt, calm-then (arguments (asks Γ) l) _ (calm-arguments l) λ x. calm-lie (of-statement i) x (declaration S c .parameters) (ret (declaration S c .output)) tt)
+    calm-statement go h τ (Statement.call c l) = (
+      tt,
+      calm-then (arguments (asks Γ) l) _ (calm-arguments l) λ x. calm-lie (of-statement i) x (declaration S c .parameters)
+          (ret (declaration S c .output)) tt,
+    )
 
   calm-infer : (d : ℕ) (Γ : Types) (i : ℕ) → Calm (infer S d Γ i)
   unfolding infer Safe
@@ -147,7 +179,8 @@ module _ (S : Script) where
   calm-bodies : (n : ℕ) (w : Asking Ty) → Calm w → Calm (bodies S n w)
   unfolding bodies
   calm-bodies zero w h = h
-  calm-bodies (suc n) w h = calm-bodies n _ (calm-then (body S (declaration S (suc n) .parameters) (S .procedureRow (suc n) .body) (declaration S (suc n) .input) (declaration S (suc n) .output)) _ (calm-body _ _ _ _) λ x. h)
+  calm-bodies (suc n) w h = calm-bodies n _ (calm-then (body S (declaration S (suc n) .parameters) (S .procedureRow (suc n) .body) (declaration S (suc n) .input) (declaration S (suc n) .output)) _
+      (calm-body _ _ _ _) λ x. h)
 
   calm-check : Calm (check-walk S)
   unfolding check-walk
@@ -163,7 +196,8 @@ load-unstuck (sound e n u) at h = never (cc)
 pub check-unstuck : {s work : List ℕ} {a : Answer} {u : ℕ} → Checked s work a u → (at : Place) → a ≡ refused (Refusal.stuck at) → ⊥
 check-unstuck (Checked.unsound l) at h = load-unstuck l at h
 check-unstuck (Checked.no-scratch l n) at h = never (cc)
-check-unstuck {s} (walked {v = v} l n t e d) at h = go v (safe-fair (Judged (namesIn (scriptOf s))) Unstuck (λ q. Unit {0}) (λ q g m j. judged-unstuck j) (λ x. Unit {0}) t (calm-check (scriptOf s))) (e ∙ h)
+check-unstuck {s} (walked {v = v} l n t e d) at h = go v (safe-fair (Judged (namesIn (scriptOf s))) Unstuck (λ q. Unit {0}) (λ q g m j. judged-unstuck j) (λ x. Unit {0}) t (calm-check (scriptOf s)))
+    (e ∙ h)
   where
     go : (v : Verdict Ty) → Fair (Judged (namesIn (scriptOf s))) Unstuck (λ q. Unit {0}) (λ x. Unit {0}) v → verdict-answer v ≡ refused (Refusal.stuck at) → ⊥
     go (gives τ) f h = never (cc)

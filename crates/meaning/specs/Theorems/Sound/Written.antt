@@ -13,7 +13,53 @@ use Rattle.meaning.specs.Kinds.{Query, Statement, queryForm, statementFo
 use Rattle.meaning.specs.Forest.{Forest, nil, cons, only, _⊕_, treeForm, forest, forestAt, forestOf}
 use Rattle.meaning.specs.Walk.{Unasked, gives, Settles}
 use Rattle.meaning.specs.Run.{Env, run-walk}
-use Rattle.meaning.specs.Figures.{Inside, in-node, in-other, Kept, k-none, k-tree, k-other, Gives, g-empty, g-join, g-tree, g-text, g-bool, g-variable, g-let, g-if-true, g-if-false, g-same, g-children, g-pick, g-for, each-none, each-tree, GivesAll, all-none, all-more, Takes, t-skip, t-then, t-if-true, t-if-false, t-insert, t-delete, t-rename, t-let, t-snapshot, t-test, t-pass, t-children, t-left, t-right, t-iter, t-call, iter-none, iter-tree}
+use Rattle.meaning.specs.Figures.{
+  Inside,
+  in-node,
+  in-other,
+  Kept,
+  k-none,
+  k-tree,
+  k-other,
+  Gives,
+  g-empty,
+  g-join,
+  g-tree,
+  g-text,
+  g-bool,
+  g-variable,
+  g-let,
+  g-if-true,
+  g-if-false,
+  g-same,
+  g-children,
+  g-pick,
+  g-for,
+  each-none,
+  each-tree,
+  GivesAll,
+  all-none,
+  all-more,
+  Takes,
+  t-skip,
+  t-then,
+  t-if-true,
+  t-if-false,
+  t-insert,
+  t-delete,
+  t-rename,
+  t-let,
+  t-snapshot,
+  t-test,
+  t-pass,
+  t-children,
+  t-left,
+  t-right,
+  t-iter,
+  t-call,
+  iter-none,
+  iter-tree,
+}
 use Rattle.meaning.specs.Shape.{wordOk, wordsOk, queryUses, statementUses, forestUses, absent, is-label as label-ok, is-size, shapely}
 use Rattle.meaning.specs.Reply.{done, Loads, sound, run-settled}
 use Rattle.meaning.specs.Laws.Bools.{and-left, and-right}
@@ -101,7 +147,8 @@ module _ (s : Sheet) where
     row-fine i (suc (suc (suc (suc zero)))) p q r l e = (label-word p (search (and-left, and-right)), omega (arith, ltb-true q i (search (and-left, and-right))))
     row-fine i (suc (suc (suc (suc (suc k))))) p q r l e = (zero-word p (search (and-left, and-right)), zero-word q (search (and-left, and-right)))
 
-  statement-fine : (i k p q r : ℕ) → wordsOk s (statementUses (s .script .procedureRow) (cells k p q r)) i (cells k p q r) ≡ true → StatementFine (s .script .procedures) (statementForm (cells k p q r))
+  statement-fine : (i k p q r : ℕ) → wordsOk s (statementUses (s .script .procedureRow) (cells k p q r)) i (cells k p q r) ≡ true
+      → StatementFine (s .script .procedures) (statementForm (cells k p q r))
   unfolding wordOk
   statement-fine i zero p q r e = tt
   statement-fine i (suc zero) p q r e = tt
@@ -168,7 +215,10 @@ forest-words : (byte : ℕ → ℕ) (row : ℕ → Cells) → ((i : ℕ) → Row
 unfolding forest
 forest-words byte row h zero r = tt
 forest-words byte row h (suc k) zero = tt
-forest-words byte row h (suc k) (suc r) = (tree-words byte (row (suc r)) (forest byte row k (row (suc r) .q)) (h (suc r)) (forest-words byte row h k (row (suc r) .q)), forest-words byte row h k (row (suc r) .r))
+forest-words byte row h (suc k) (suc r) = (
+  tree-words byte (row (suc r)) (forest byte row k (row (suc r) .q)) (h (suc r)) (forest-words byte row h k (row (suc r) .q)),
+  forest-words byte row h k (row (suc r) .r),
+)
 
 grove-words : (G : Grove) → ((i : ℕ) → RowFine (G .row i)) → Words (forestOf G)
 unfolding forestAt
@@ -261,5 +311,6 @@ unfolding run-walk sheetOf
 given-writable {s} loads f g =
     let p = loads-shapely loads in
     let t : Settles Unasked (run-walk (sheetOf s)) (sheetOf s .runFuel) (gives f) (run-settled s .left) = rw g at (settle-settles (run-walk (sheetOf s)) (sheetOf s .runFuel)) in
-    takes-writable (groveOf s .byte) (scriptOf s) (queries-fine s p) (statements-fine s p) (derived-run (scriptOf s) (groveOf s .byte) most-depth [] (scriptOf s .main) (forestOf (groveOf s)) f _ _ t) tt
+    takes-writable (groveOf s .byte) (scriptOf s) (queries-fine s p) (statements-fine s p)
+    (derived-run (scriptOf s) (groveOf s .byte) most-depth [] (scriptOf s .main) (forestOf (groveOf s)) f _ _ t) tt
     (decoded-in-pool (groveOf s), grove-words (groveOf s) (rows-fine s p))

@@ -281,7 +281,7 @@ module _ (s : List ℕ) (loads : Loads s done) (σ : Ty) (over : Over (Name (scr
           let S = scriptOf s in let N = namesIn S in
           let f = found-over s shape fertile σ over in let q = sought-row s shape untied w h in
           by-included f q (points-decided (allTypes N) (typesOf S) (keysOf N (S .names) (contents-over s shape) σ) (rowsOf s shape) (λ τ. suc (atomsIn τ)) (λ r. suc r)
-              (found-known N (S .names) (contents-over s shape) σ) (wanted-known s shape) σ w (key-top, over) h (f .lives (pointsOf S) (startOf S w)) (q .free (typeSide N) (typeStart N σ)))
+          (found-known N (S .names) (contents-over s shape) σ) (wanted-known s shape) σ w (key-top, over) h (f .lives (pointsOf S) (startOf S w)) (q .free (typeSide N) (typeStart N σ)))
 
   -- in (), text or bool
   pub plain-decided : (τ : Ty) → Plain τ → Decided (namesIn (scriptOf s)) σ τ
@@ -292,7 +292,7 @@ module _ (s : List ℕ) (loads : Loads s done) (σ : Ty) (over : Over (Name (scr
           let S = scriptOf s in let N = namesIn S in
           let f = found-over s shape fertile σ over in let q = sought-plain N τ p in
           by-included f q (points-decided (allTypes N) (allTypes N) (keysOf N (S .names) (contents-over s shape) σ) (plainOf N τ p) (λ τ. suc (atomsIn τ)) (λ k. 2)
-              (found-known N (S .names) (contents-over s shape) σ) (plain-known N τ p) σ τ (key-top, over) just (f .lives (typeSide N) (typeStart N τ)) (q .free (typeSide N) (typeStart N σ)))
+          (found-known N (S .names) (contents-over s shape) σ) (plain-known N τ p) σ τ (key-top, over) just (f .lives (typeSide N) (typeStart N τ)) (q .free (typeSide N) (typeStart N σ)))
 
 -- ---- and whether a forest is of a type is decided, for any type
 

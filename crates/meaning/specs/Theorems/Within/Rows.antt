@@ -21,11 +21,51 @@ use Rattle.meaning.specs.Laws.Tests.{in-table, table-low, table-high, so
 use Rattle.meaning.specs.Laws.Barren.{forest-over, over-rows}
 use Rattle.meaning.specs.Laws.Shaped.{kind-in, named, label-row, name-row}
 use Rattle.meaning.specs.Laws.Wired.{has}
-use Rattle.meaning.specs.Laws.Apart.{model-placed, model-below, Low, Lower, Labelled, Once, AtomKind, a-text, a-bool, a-label, a-name, atom-kind, shaped-lower, shaped-labelled, shaped-once, tyAt-same}
+use Rattle.meaning.specs.Laws.Apart.{
+  model-placed,
+  model-below,
+  Low,
+  Lower,
+  Labelled,
+  Once,
+  AtomKind,
+  a-text,
+  a-bool,
+  a-label,
+  a-name,
+  atom-kind,
+  shaped-lower,
+  shaped-labelled,
+  shaped-once,
+  tyAt-same,
+}
 use Rattle.meaning.specs.Theorems.Places.{namesOver, admits-of}
 use Rattle.meaning.specs.Laws.Models.{same-head-says}
 use Rattle.meaning.specs.Laws.Pairs.{Side, Suits, Admitted, Lives, Free, Comes, comes-wanted}
-use Rattle.meaning.specs.Laws.Points.{heads-differ, On, on-has, has-first, has-follows, Family, Point, begin, pointSide, Sort, sort-text, sort-bool, sort-label, Place, Reached, at-start, at-place, reached-asked, reached-on, reached-after, reached-into, comes-lives}
+use Rattle.meaning.specs.Laws.Points.{
+  heads-differ,
+  On,
+  on-has,
+  has-first,
+  has-follows,
+  Family,
+  Point,
+  begin,
+  pointSide,
+  Sort,
+  sort-text,
+  sort-bool,
+  sort-label,
+  Place,
+  Reached,
+  at-start,
+  at-place,
+  reached-asked,
+  reached-on,
+  reached-after,
+  reached-into,
+  comes-lives,
+}
 use Rattle.meaning.specs.Theorems.Within.Sides.{Found, Sought}
 
 -- ---- the types at the rows of a table, as a side: a type is known by its row
@@ -54,7 +94,13 @@ module _ (row : ℕ → Cells) (nameRow : ℕ → ℕ) where
     admits-admitted nil x = (λ i. i, λ i. i)
     admits-admitted (cons t f) x = (
       (λ i. (i .0, and-both (ltb 0 (i .0)) (x .set (i .0)) (lt-ltb 0 (i .0) (i .1)) (i .2), fits-suits t x (i .0) .0 (i .3), admits-admitted f (points .after x (i .0)) .0 (i .4))),
-      (λ i. (i .0, ltb-true 0 (i .0) (and-left (ltb 0 (i .0)) (x .set (i .0)) (i .1)), and-right (ltb 0 (i .0)) (x .set (i .0)) (i .1), fits-suits t x (i .0) .1 (i .2), admits-admitted f (points .after x (i .0)) .1 (i .3))),
+      (λ i. (
+        i .0,
+        ltb-true 0 (i .0) (and-left (ltb 0 (i .0)) (x .set (i .0)) (i .1)),
+        and-right (ltb 0 (i .0)) (x .set (i .0)) (i .1),
+        fits-suits t x (i .0) .1 (i .2),
+        admits-admitted f (points .after x (i .0)) .1 (i .3),
+      )),
     )
 
 -- ---- tables whose rows refer to lower rows
@@ -200,7 +246,8 @@ module _ (s : List ℕ) (shape : shapely s ≡ true) where
     wanted-free y (at-start r h) a b p q e = let m = modelIn (S .typeRow) (S .nameRow) r in
         one-place r a b h e (or-left (some (λ c. follows m c a && follows m c b) (S .types)) (and-both (first m a) (first m b) (has-first m a p) (has-first m b q)))
     wanted-free y (at-place r c h o) a b p q e = let m = modelIn (S .typeRow) (S .nameRow) r in let l = on-row r c h o in
-        one-place r a b h e (or-right (first m a && first m b) (some-at (λ c. follows m c a && follows m c b) (S .types) c (l .0) (l .1) (and-both (follows m c a) (follows m c b) (has-follows m c a p) (has-follows m c b q))))
+        one-place r a b h e (or-right (first m a && first m b) (some-at (λ c. follows m c a && follows m c b) (S .types) c (l .0) (l .1)
+        (and-both (follows m c a) (follows m c b) (has-follows m c a p) (has-follows m c b q))))
 
     pub sought-row : (w : ℕ) → Wanted S w → Sought (namesIn S) (pointsOf S) (startOf S w) (declared S w)
     sought-row w h = record {
@@ -250,9 +297,14 @@ extended s e row top l agree lower once known = record {
   same = λ x. rw (agree (scriptOf s .nameRow x) (named-low s e x)) (same-content x);
 }
   where
-    same-content : (x : ℕ) → _≡_ {A = Named} (record { label = scriptOf s .typeRow (scriptOf s .nameRow x) .p; content = tyAt (λ i. typeForm (row i)) (scriptOf s .typeRow (scriptOf s .nameRow x) .q) })
+    same-content : (x : ℕ) → _≡_ {A = Named} (record {
+      label = scriptOf s .typeRow (scriptOf s .nameRow x) .p;
+      content =
+          tyAt (λ i. typeForm (row i)) (scriptOf s .typeRow (scriptOf s .nameRow x) .q);
+    })
         (record { label = scriptOf s .typeRow (scriptOf s .nameRow x) .p; content = declared (scriptOf s) (scriptOf s .typeRow (scriptOf s .nameRow x) .q) })
-    same-content x = rw (tyAt-same (λ i. typeForm (row i)) (λ i. typeForm (scriptOf s .typeRow i)) (scriptOf s .types) (λ i h. lower i) (λ i h. rw (agree i h)) (scriptOf s .typeRow (scriptOf s .nameRow x) .q) (name-content s e x))
+    same-content x = rw (tyAt-same (λ i. typeForm (row i)) (λ i. typeForm (scriptOf s .typeRow i)) (scriptOf s .types) (λ i h. lower i) (λ i h. rw (agree i h))
+        (scriptOf s .typeRow (scriptOf s .nameRow x) .q) (name-content s e x))
 
 pub found-row : (s : List ℕ) → NoneBarren (scriptOf s) → (row : ℕ → Cells) (top : ℕ) → Beside (scriptOf s) row top → (r : ℕ) → r ≤ top
     → Found (namesIn (scriptOf s)) (points row (scriptOf s .nameRow)) (startAt row (scriptOf s .nameRow) r) (tyAt (λ i. typeForm (row i)) r)

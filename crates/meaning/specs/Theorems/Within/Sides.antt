@@ -1,4 +1,5 @@
--- What is asked of a found side and of a wanted one that stand for types; then inclusion of the types holds exactly if no pair of states that is reached is bad. A side that goes alike stands for the same type.
+-- What is asked of a found side and of a wanted one that stand for types; then inclusion of the types holds exactly if no pair of states that is reached is bad. A side that goes alike stands for
+-- the same type.
 use Prim.Native.Nat.{ℕ, _≤_}
 use mathlib.Core.Path.{_≡_, sym, _∙_}
 use mathlib.Core.Bool.{true}

@@ -1,4 +1,5 @@
--- Any type as a side: its atoms, numbered from left to right, are its places, each once, and the types inside them are types again. Found: any type over names that are not barren. Wanted: (), text and bool.
+-- Any type as a side: its atoms, numbered from left to right, are its places, each once, and the types inside them are types again. Found: any type over names that are not barren. Wanted: (), text
+-- and bool.
 use Prim.Native.Nat.{ℕ, suc, _+_, _≤_, _<_}
 use mathlib.Core.Path.{_≡_, refl, sym}
 use mathlib.Core.Bool.{Bool, true, false, cond, false≢true}
@@ -18,7 +19,29 @@ use Rattle.meaning.specs.Laws.Barren.{Over, over-map, Name, forest-over,
 use Rattle.meaning.specs.Laws.Wired.{has, Wired, ends, In, in-empty, in-atom, in-seq, in-left, in-right, in-none, in-more, Lang, places}
 use Rattle.meaning.specs.Laws.Apart.{Apart, next-wired}
 use Rattle.meaning.specs.Laws.Pairs.{Side, Suits, Admitted, Lives, Comes, comes-wanted}
-use Rattle.meaning.specs.Laws.Points.{heads-differ, on-has, Family, Point, begin, pointSide, Sort, sort-text, sort-bool, sort-label, Place, Reached, at-start, reached-asked, reached-on, reached-after, reached-into, comes-lives, tableSide, Shows, table-alike}
+use Rattle.meaning.specs.Laws.Points.{
+  heads-differ,
+  on-has,
+  Family,
+  Point,
+  begin,
+  pointSide,
+  Sort,
+  sort-text,
+  sort-bool,
+  sort-label,
+  Place,
+  Reached,
+  at-start,
+  reached-asked,
+  reached-on,
+  reached-after,
+  reached-into,
+  comes-lives,
+  tableSide,
+  Shows,
+  table-alike,
+}
 use Rattle.meaning.specs.Theorems.Within.Sides.{Found, Sought, sought-by}
 
 unfoldable pub atomsIn : Ty → ℕ
@@ -265,7 +288,13 @@ module _ (names : ℕ → Named) where
     admitted-lang : (f : Forest) (x : Point Ty) → Admitted typeSide f x ↔ Lang (λ a t. Of names (atomAt 0 (x .key) a) (only t)) (next (numbered 0 (x .key))) (x .set) f
     admitted-lang nil x = (λ i. i, λ i. i)
     admitted-lang (cons t f) x = (
-      (λ i. (i .0, ltb-true 0 (i .0) (and-left (ltb 0 (i .0)) (x .set (i .0)) (i .1)), and-right (ltb 0 (i .0)) (x .set (i .0)) (i .1), suits-of t x (i .0) .0 (i .2), admitted-lang f (typeSide .after x (i .0)) .0 (i .3))),
+      (λ i. (
+        i .0,
+        ltb-true 0 (i .0) (and-left (ltb 0 (i .0)) (x .set (i .0)) (i .1)),
+        and-right (ltb 0 (i .0)) (x .set (i .0)) (i .1),
+        suits-of t x (i .0) .0 (i .2),
+        admitted-lang f (typeSide .after x (i .0)) .0 (i .3),
+      )),
       (λ i. (i .0, and-both (ltb 0 (i .0)) (x .set (i .0)) (lt-ltb 0 (i .0) (i .1)) (i .2), suits-of t x (i .0) .1 (i .3), admitted-lang f (typeSide .after x (i .0)) .1 (i .4))),
     )
 

@@ -1,4 +1,5 @@
--- Examples beyond the document's twelve, gathered under one statement, `Slips`: each refuses slips in definitions that the twelve would let pass (docs/CHANGED-DEFINITIONS.md). Units and rows are those that the independent second program gives.
+-- Examples beyond the document's twelve, gathered under one statement, `Slips`: each refuses slips in definitions that the twelve would let pass (docs/CHANGED-DEFINITIONS.md). Units and rows are
+-- those that the independent second program gives.
 use Prim.Native.Nat.{ℕ, zero, suc, _-_}
 use mathlib.Core.Path.{_≡_, refl}
 use mathlib.Core.Bool.{true, false, cond}
@@ -90,13 +91,19 @@ Numbers = Checks wrong-argument (refused (outside (of-statement 2))) 4 × Checks
 -- left [left [.. skip]] of n rows, and insert a[a[.. ()]] of n queries: a row at depth 201 is Depth before Fuel, of statements and queries, run and checked
 abbrev deep : ℕ → ℕ → Script
 deep n statements = record {
-  names = 0; types = 2; queries = n; statements = statements; procedures = 0;
+  names = 0;
+  types = 2;
+  queries = n;
+  statements = statements;
+  procedures = 0;
   nameRow = λ x. 0;
   typeRow = λ r. record { kind = 1; p = 0; q = 0; r = 0 };
   queryRow = λ r. record { kind = cond (eqb r 1) 1 3; p = cond (eqb r 1) 0 1; q = r - 1; r = 0 };
   statementRow = λ r. cond (eqb statements 1) (record { kind = 4; p = n; q = 0; r = 0 }) (record { kind = cond (eqb r 1) 1 11; p = r - 1; q = 0; r = 0 });
   procedureRow = λ r. no-procedure;
-  a = 1; b = 2; main = statements;
+  a = 1;
+  b = 2;
+  main = statements;
 }
 
 abbrev pub Depths : Type 0
@@ -131,13 +138,51 @@ ok-kinds = sound refl (one-name kinds refl some-of-X) (untied (scriptOf kinds) r
 
 all-kinds : Kinds
 unfolding kinds runs checks
-all-kinds = (does ok-kinds 3897 refl refl refl refl, answers ok-kinds 3870 (in-itself refl refl, (in-itself refl refl, (in-itself refl refl, (in-itself refl refl, (in-itself refl refl, (in-itself refl refl, (in-itself refl refl, (in-itself refl refl, (in-itself refl refl, (in-itself refl refl, (in-itself refl refl, (in-itself refl refl, (in-itself refl refl, (in-itself refl refl, tt)))))))))))))) refl refl refl)
+all-kinds = (
+  does ok-kinds 3897 refl refl refl refl,
+  answers ok-kinds 3870 (
+    in-itself refl refl,
+    (
+      in-itself refl refl,
+      (
+        in-itself refl refl,
+        (
+          in-itself refl refl,
+          (
+            in-itself refl refl,
+            (
+              in-itself refl refl,
+              (
+                in-itself refl refl,
+                (
+                  in-itself refl refl,
+                  (
+                    in-itself refl refl,
+                    (
+                      in-itself refl refl,
+                      (in-itself refl refl, (in-itself refl refl, (in-itself refl refl, (in-itself refl refl, tt)))),
+                    ),
+                  ),
+                ),
+              ),
+            ),
+          ),
+        ),
+      ),
+    ),
+  )
+      refl refl refl,
+)
 
 -- ---- texts, children, pick
 
 all-texts : Texts
 unfolding small shape ties runs
-all-texts = (does (loads (differ 0 2 2 2) refl refl refl) 4089 refl refl refl refl, does (loads (differ 0 1 0 2) refl refl refl) 4089 refl refl refl refl, does (loads (differ 0 2 0 1) refl refl refl) 4089 refl refl refl refl)
+all-texts = (
+  does (loads (differ 0 2 2 2) refl refl refl) 4089 refl refl refl refl,
+  does (loads (differ 0 1 0 2) refl refl refl) 4089 refl refl refl refl,
+  does (loads (differ 0 2 0 1) refl refl refl) 4089 refl refl refl refl,
+)
 
 all-inner : Inner
 unfolding small shape ties runs
@@ -156,7 +201,8 @@ module _ (names : ℕ → Named) where
 not-c : fits (Tree.node a (only (leaf c))) → ⊥
 unfolding typed ties Fits Admits
 not-c x = elim (or-cases (eqb 2 (x .1 .0)) false (x .1 .2)) [
-  | inl e ↦ (let h : headAt (scriptOf a-of-b .typeRow) (scriptOf a-of-b .nameRow) 2 ≡ Head.label c = rw (← eqb-true 2 (x .1 .0) e) at (x .1 .3 .0) in let z : _≡_ {A = ℕ} 2 3 = cc in absurd (omega arith))
+  | inl e ↦ (let h : headAt (scriptOf a-of-b .typeRow) (scriptOf a-of-b .nameRow) 2 ≡ Head.label c = rw (← eqb-true 2 (x .1 .0) e) at (x .1 .3 .0) in let z : _≡_ {A = ℕ} 2 3 = cc in
+      absurd (omega arith))
   | inr e ↦ not-both e refl
 ]
 
@@ -225,15 +271,17 @@ stop-512 : Stopping (namesIn (scriptOf (doubling (row 3 1 25 0 ∷ []) 26))) (St
 unfolding doubling checks Stopping
 stop-512 = (fails (leb-true 512 most-width refl) (not-bool _ (of-doubled _ 8 (X-512 .1))), refl)
 
-stop-513 : Stopping (namesIn (scriptOf (doubling (row 3 1 25 0 ∷ row 3 1 26 0 ∷ []) 27))) (Stop.wide (of-statement 3)) 4049 (check-walk (scriptOf (doubling (row 3 1 25 0 ∷ row 3 1 26 0 ∷ []) 27))) 4096
+stop-513 : Stopping (namesIn (scriptOf (doubling (row 3 1 25 0 ∷ row 3 1 26 0 ∷ []) 27))) (Stop.wide (of-statement 3)) 4049 (check-walk (scriptOf (doubling (row 3 1 25 0 ∷ row 3 1 26 0 ∷ []) 27)))
+    4096
 unfolding doubling checks Stopping
 stop-513 = (too-wide (leb-true 513 513 refl), refl)
 
 all-widths : Widths
 unfolding doubling tables
 all-widths = (
-    answers-by ok-512 4051 (stopping (check-walk (scriptOf (doubling (row 3 1 25 0 ∷ []) 26))) 4096 stop-512) refl refl,
-    answers-by ok-513 4049 (stopping (check-walk (scriptOf (doubling (row 3 1 25 0 ∷ row 3 1 26 0 ∷ []) 27))) 4096 stop-513) refl refl)
+  answers-by ok-512 4051 (stopping (check-walk (scriptOf (doubling (row 3 1 25 0 ∷ []) 26))) 4096 stop-512) refl refl,
+  answers-by ok-513 4049 (stopping (check-walk (scriptOf (doubling (row 3 1 25 0 ∷ row 3 1 26 0 ∷ []) 27))) 4096 stop-513) refl refl,
+)
 
 -- ---- numbers
 
@@ -255,8 +303,10 @@ ok-insert = loads insert-on-a refl refl refl
 all-numbers : Numbers
 unfolding wrong-argument typed checks
 all-numbers = (
-    answers-by ok-argument 4092 (paid (passed (in-itself refl refl) (paid (passed (in-itself refl refl) (paid (paid (walk.refused (fails (leb-true 1 most-width refl) (λ w. no-text _ (w _ of-text) refl))))))))) refl refl,
-    answers-by ok-insert 4095 (paid (walk.refused (fails (leb-true 2 most-width refl) (λ w. no-tree _ (w _ (of-label of-empty)) refl)))) refl refl)
+  answers-by ok-argument 4092 (paid (passed (in-itself refl refl)
+      (paid (passed (in-itself refl refl) (paid (paid (walk.refused (fails (leb-true 1 most-width refl) (λ w. no-text _ (w _ of-text) refl))))))))) refl refl,
+  answers-by ok-insert 4095 (paid (walk.refused (fails (leb-true 2 most-width refl) (λ w. no-tree _ (w _ (of-label of-empty)) refl)))) refl refl,
+)
 
 all-depths : Depths
 unfolding runs checks
@@ -266,6 +316,16 @@ all-depths = (refl, refl, refl, refl)
 
 pub slips : Slips
 slips = record {
-  kinds = all-kinds; stuck = all-stick; mismatched = all-mismatch; tied = all-tie; named = names-tie; texts = all-texts; inner = all-inner;
-  contents = all-contents; twice = all-twice; widths = all-widths; numbers = all-numbers; depths = all-depths;
+  kinds = all-kinds;
+  stuck = all-stick;
+  mismatched = all-mismatch;
+  tied = all-tie;
+  named = names-tie;
+  texts = all-texts;
+  inner = all-inner;
+  contents = all-contents;
+  twice = all-twice;
+  widths = all-widths;
+  numbers = all-numbers;
+  depths = all-depths;
 }

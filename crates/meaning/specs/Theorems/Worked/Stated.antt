@@ -16,8 +16,55 @@ use Rattle.meaning.specs.Types.{Ty, Named, Fertile, namesIn, tyAt, ty, t
 use Rattle.meaning.specs.Walk.{ret, halt, tick, ask, _>>=_, pay, pass, Quiet, Verdict, gives, Settled, settle, Settles, halted, short, paid, passed}
 use Rattle.meaning.specs.Walk as walk
 use Rattle.meaning.specs.Run.{seen, tested, inside, kept, each, branch, same-texts, query-of, insert-of, rename-of, test-of, children-of, arguments, statement-of, query, statement, run-walk}
-use Rattle.meaning.specs.Check.{Question, Asking, Judged, holds, parts, tests, picked, test-type, rename-type, children-type, inside-type, ask-all, query-type, statement-type, typesAt, infer, typing, body, bodies, check-walk}
-use Rattle.meaning.specs.Shape.{wordOk, types-ok, queries-ok, statements-ok, rows-ok, names-ok, procedures-ok, roots-ok, limits-ok, own, asking, type-users, query-users, statement-users, row-users, users-ok, holds-tree, query-scope, arguments-scope, statement-scope, parameters-scope, query-scoped, statement-scoped, scope-ok, shapely}
+use Rattle.meaning.specs.Check.{
+  Question,
+  Asking,
+  Judged,
+  holds,
+  parts,
+  tests,
+  picked,
+  test-type,
+  rename-type,
+  children-type,
+  inside-type,
+  ask-all,
+  query-type,
+  statement-type,
+  typesAt,
+  infer,
+  typing,
+  body,
+  bodies,
+  check-walk,
+}
+use Rattle.meaning.specs.Shape.{
+  wordOk,
+  types-ok,
+  queries-ok,
+  statements-ok,
+  rows-ok,
+  names-ok,
+  procedures-ok,
+  roots-ok,
+  limits-ok,
+  own,
+  asking,
+  type-users,
+  query-users,
+  statement-users,
+  row-users,
+  users-ok,
+  holds-tree,
+  query-scope,
+  arguments-scope,
+  statement-scope,
+  parameters-scope,
+  query-scoped,
+  statement-scoped,
+  scope-ok,
+  shapely,
+}
 use Rattle.meaning.specs.Places.{model, modelAt, modelForm, nullable, first, last, follows, same-head, tied, NoneBarren}
 use Rattle.meaning.specs.Bundle.{blocks, filled, wordSum, payload, all-zero}
 use Rattle.meaning.specs.Reply.{Refusal, Answer, done, refused, Loads, sound, Checked, walked, Ran, ended, gave, run-settled, verdict-answer}
@@ -49,7 +96,8 @@ tables = tt
 
 -- Shape
 unfoldable pub shape : Unit {0}
-unfolding tables every some total wordOk types-ok queries-ok statements-ok rows-ok names-ok procedures-ok roots-ok limits-ok own asking type-users query-users statement-users row-users users-ok holds-tree query-scope arguments-scope statement-scope parameters-scope query-scoped statement-scoped scope-ok
+unfolding tables every some total wordOk types-ok queries-ok statements-ok rows-ok names-ok procedures-ok roots-ok limits-ok own asking type-users query-users statement-users row-users users-ok
+    holds-tree query-scope arguments-scope statement-scope parameters-scope query-scoped statement-scoped scope-ok
 shape = tt
 
 -- ties
@@ -59,12 +107,14 @@ ties = tt
 
 -- a run, and its result's rows
 unfoldable pub runs : Unit {0}
-unfolding tables settle run-walk statement query statement-of query-of each test-of tested seen inside kept branch same-texts sameBytes bytesFrom rename-of arguments children-of insert-of _>>=_ pay count _⊕_ forest forestAt forestSize treeSize forestRows treeRows rootAfter rowBytes
+unfolding tables settle run-walk statement query statement-of query-of each test-of tested seen inside kept branch same-texts sameBytes bytesFrom rename-of arguments children-of insert-of _>>=_ pay
+    count _⊕_ forest forestAt forestSize treeSize forestRows treeRows rootAfter rowBytes
 runs = tt
 
 -- a check
 unfoldable pub checks : Unit {0}
-unfolding tables unasked Passing settle namesIn tyAt ty tyForm atomOf size parts tests picked test-type rename-type children-type inside-type ask-all query-type statement-type typesAt arguments infer typing body bodies check-walk _>>=_ pay
+unfolding tables unasked Passing settle namesIn tyAt ty tyForm atomOf size parts tests picked test-type rename-type children-type inside-type ask-all query-type statement-type typesAt arguments
+    infer typing body bodies check-walk _>>=_ pay
 checks = tt
 
 -- a bundle

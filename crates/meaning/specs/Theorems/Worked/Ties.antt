@@ -97,7 +97,8 @@ module _ (S : Script) where
       clash x = elim (or-cases (not (looked (x .0))) _ (every-at _ (S .types) h (x .0) (x .1) (x .2))) [
         | inl n ↦ not-both {a = looked (x .0)} (and-left _ (at-odds (x .0) a b) (x .3)) (not-true (looked (x .0)) n)
         | inr p ↦ (let o = and-right (looked (x .0)) _ (x .3) in not-both {a = which a b && at-odds (x .0) a b} (and-both (which a b) (at-odds (x .0) a b) w o)
-            (not-true (which a b && at-odds (x .0) a b) (together-passes (λ c d. not (which c d && at-odds (x .0) c d)) (S .types) (modelOf (x .0)) a b p (and-right (two-of-one-head a b) (together (S .types) (modelOf (x .0)) a b) o))))
+            (not-true (which a b && at-odds (x .0) a b) (together-passes (λ c d. not (which c d && at-odds (x .0) c d)) (S .types) (modelOf (x .0)) a b p
+            (and-right (two-of-one-head a b) (together (S .types) (modelOf (x .0)) a b) o))))
       ]
 
   pub untied : none-tied (λ a b. true) ≡ true → Untied S

@@ -1,4 +1,5 @@
--- Small sheets, one for each way to be stuck, to be mismatched and to be tied that the twelve leave open: each refuses a slip in a definition. By computation; rows and units are those that the independent second program gives.
+-- Small sheets, one for each way to be stuck, to be mismatched and to be tied that the twelve leave open: each refuses a slip in a definition. By computation; rows and units are those that the
+-- independent second program gives.
 use Prim.Native.Nat.{ℕ, _+_, _-_}
 use mathlib.Core.Path.{_≡_, refl}
 use mathlib.Core.Bool.{true, _&&_}
@@ -61,40 +62,120 @@ trial queries statements main rows place units = record { sheet = small queries 
 
 abbrev pub stuck-trials : List Trial
 stuck-trials =
-    trial (row 1 0 0 0 ∷ []) (row 4 1 0 0 ∷ []) 1 one-a (of-statement 1) 1 -- insert on a
-  ∷ trial [] (row 1 0 0 0 ∷ row 9 1 0 1 ∷ []) 2 none (of-statement 2) 1 -- text? on ()
-  ∷ trial [] (row 1 0 0 0 ∷ row 9 1 0 1 ∷ []) 2 a-and-d (of-statement 2) 1 -- text? on a, d
-  ∷ trial [] (row 1 0 0 0 ∷ row 9 2 1 1 ∷ []) 2 none (of-statement 2) 1 -- label? on ()
-  ∷ trial [] (row 1 0 0 0 ∷ row 9 2 1 1 ∷ []) 2 a-and-d (of-statement 2) 1 -- label? on a, d
-  ∷ trial [] (row 1 0 0 0 ∷ row 9 3 0 1 ∷ []) 2 none (of-statement 2) 1 -- any tree? on ()
-  ∷ trial [] (row 1 0 0 0 ∷ row 9 3 0 1 ∷ []) 2 a-and-d (of-statement 2) 1 -- any tree? on a, d
-  ∷ trial [] (row 6 2 0 0 ∷ []) 1 none (of-statement 1) 1 -- rename on ()
-  ∷ trial [] (row 6 2 0 0 ∷ []) 1 a-and-d (of-statement 1) 1 -- rename on a, d
-  ∷ trial [] (row 6 2 0 0 ∷ []) 1 one-text (of-statement 1) 1 -- rename on a text
-  ∷ trial [] (row 6 2 0 0 ∷ []) 1 one-bool (of-statement 1) 1 -- rename on a bool
-  ∷ trial [] (row 1 0 0 0 ∷ row 10 1 0 0 ∷ []) 2 none (of-statement 2) 1 -- children on ()
-  ∷ trial [] (row 1 0 0 0 ∷ row 10 1 0 0 ∷ []) 2 a-and-d (of-statement 2) 1 -- children on a, d
-  ∷ trial [] (row 1 0 0 0 ∷ row 10 1 0 0 ∷ []) 2 one-bool (of-statement 2) 1 -- children on a bool
-  ∷ trial (row 1 0 0 0 ∷ []) (row 1 0 0 0 ∷ row 1 0 0 0 ∷ row 3 1 1 2 ∷ []) 3 none (of-statement 3) 2 -- if ()
-  ∷ trial (row 5 0 0 0 ∷ row 5 0 0 0 ∷ row 2 1 2 0 ∷ []) (row 1 0 0 0 ∷ row 1 0 0 0 ∷ row 3 3 1 2 ∷ []) 3 none (of-statement 3) 7 -- if true, true
-  ∷ trial (row 4 0 2 0 ∷ []) (row 1 0 0 0 ∷ row 1 0 0 0 ∷ row 3 1 1 2 ∷ []) 3 none (of-statement 3) 3 -- if a text
-  ∷ trial (row 1 0 0 0 ∷ row 3 1 1 0 ∷ []) (row 1 0 0 0 ∷ row 1 0 0 0 ∷ row 3 2 1 2 ∷ []) 3 none (of-statement 3) 4 -- if a
-  ∷ trial (row 1 0 0 0 ∷ row 4 0 2 0 ∷ row 10 1 2 0 ∷ []) (row 4 3 0 0 ∷ []) 1 none (of-query 3) 5 -- same (), "ab"
-  ∷ trial (row 4 0 2 0 ∷ row 1 0 0 0 ∷ row 10 1 2 0 ∷ []) (row 4 3 0 0 ∷ []) 1 none (of-query 3) 5 -- same "ab", ()
-  ∷ trial (row 5 0 0 0 ∷ row 5 0 0 0 ∷ row 2 1 2 0 ∷ row 4 0 2 0 ∷ row 10 3 4 0 ∷ []) (row 4 5 0 0 ∷ []) 1 none (of-query 5) 10 -- same true, true, "ab"
-  ∷ trial (row 4 0 2 0 ∷ row 5 0 0 0 ∷ row 5 0 0 0 ∷ row 2 2 3 0 ∷ row 10 1 4 0 ∷ []) (row 4 5 0 0 ∷ []) 1 none (of-query 5) 10 -- same "ab", true, true
-  ∷ trial (row 5 0 0 0 ∷ row 4 0 2 0 ∷ row 10 1 2 0 ∷ []) (row 4 3 0 0 ∷ []) 1 none (of-query 3) 6 -- same true, "ab"
-  ∷ trial (row 4 0 2 0 ∷ row 5 0 0 0 ∷ row 10 1 2 0 ∷ []) (row 4 3 0 0 ∷ []) 1 none (of-query 3) 6 -- same "ab", true
-  ∷ trial (row 1 0 0 0 ∷ row 3 1 1 0 ∷ row 4 0 2 0 ∷ row 10 2 3 0 ∷ []) (row 4 4 0 0 ∷ []) 1 none (of-query 4) 7 -- same a, "ab"
-  ∷ trial (row 4 0 2 0 ∷ row 1 0 0 0 ∷ row 3 1 2 0 ∷ row 10 1 3 0 ∷ []) (row 4 4 0 0 ∷ []) 1 none (of-query 4) 7 -- same "ab", a
-  ∷ trial (row 5 0 0 0 ∷ row 1 0 0 0 ∷ row 1 0 0 0 ∷ row 1 0 0 0 ∷ row 9 2 3 4 ∷ row 2 1 5 0 ∷ []) (row 4 6 0 0 ∷ []) 1 none (of-query 5) 6 -- if () as a query, joined to true: the copy of true is not yet paid
-  ∷ trial [] (row 6 2 0 0 ∷ row 13 1 0 0 ∷ []) 2 a-and-text (of-statement 1) 7 -- iter [rename b] on a, "ab": the first result is paid before the second tree
-  ∷ trial (row 5 0 0 0 ∷ row 1 0 0 0 ∷ []) (row 4 1 0 0 ∷ row 11 1 0 0 ∷ row 4 2 0 0 ∷ row 2 2 3 0 ∷ []) 4 none (of-statement 3) 7 -- left [insert true]; insert () on the result: the new part is paid
+    trial (row 1 0 0 0 ∷ []) (row 4 1 0 0 ∷ []) 1 one-a (of-statement 1) 1  -- insert on a
+    ∷ trial [] (row 1 0 0 0 ∷ row 9 1 0 1 ∷ []) 2 none (of-statement 2) 1  -- text? on ()
+    ∷ trial [] (row 1 0 0 0 ∷ row 9 1 0 1 ∷ []) 2 a-and-d (of-statement 2) 1  -- text? on a, d
+    ∷ trial [] (row 1 0 0 0 ∷ row 9 2 1 1 ∷ []) 2 none (of-statement 2) 1  -- label? on ()
+    ∷ trial [] (row 1 0 0 0 ∷ row 9 2 1 1 ∷ []) 2 a-and-d (of-statement 2) 1  -- label? on a, d
+    ∷ trial [] (row 1 0 0 0 ∷ row 9 3 0 1 ∷ []) 2 none (of-statement 2) 1  -- any tree? on ()
+    ∷ trial [] (row 1 0 0 0 ∷ row 9 3 0 1 ∷ []) 2 a-and-d (of-statement 2) 1  -- any tree? on a, d
+    ∷ trial [] (row 6 2 0 0 ∷ []) 1 none (of-statement 1) 1  -- rename on ()
+    ∷ trial [] (row 6 2 0 0 ∷ []) 1 a-and-d (of-statement 1) 1  -- rename on a, d
+    ∷ trial [] (row 6 2 0 0 ∷ []) 1 one-text (of-statement 1) 1  -- rename on a text
+    ∷ trial [] (row 6 2 0 0 ∷ []) 1 one-bool (of-statement 1) 1  -- rename on a bool
+    ∷ trial [] (row 1 0 0 0 ∷ row 10 1 0 0 ∷ []) 2 none (of-statement 2) 1  -- children on ()
+    ∷ trial [] (row 1 0 0 0 ∷ row 10 1 0 0 ∷ []) 2 a-and-d (of-statement 2) 1  -- children on a, d
+    ∷ trial [] (row 1 0 0 0 ∷ row 10 1 0 0 ∷ []) 2 one-bool (of-statement 2) 1  -- children on a bool
+    ∷ trial (row 1 0 0 0 ∷ []) (row 1 0 0 0 ∷ row 1 0 0 0 ∷ row 3 1 1 2 ∷ []) 3 none (of-statement 3) 2  -- if ()
+    ∷ trial (row 5 0 0 0 ∷ row 5 0 0 0 ∷ row 2 1 2 0 ∷ []) (row 1 0 0 0 ∷ row 1 0 0 0 ∷ row 3 3 1 2 ∷ []) 3 none (of-statement 3) 7  -- if true, true
+    ∷ trial (row 4 0 2 0 ∷ []) (row 1 0 0 0 ∷ row 1 0 0 0 ∷ row 3 1 1 2 ∷ []) 3 none (of-statement 3) 3  -- if a text
+    ∷ trial (row 1 0 0 0 ∷ row 3 1 1 0 ∷ []) (row 1 0 0 0 ∷ row 1 0 0 0 ∷ row 3 2 1 2 ∷ []) 3 none (of-statement 3) 4  -- if a
+    ∷ trial (row 1 0 0 0 ∷ row 4 0 2 0 ∷ row 10 1 2 0 ∷ []) (row 4 3 0 0 ∷ []) 1 none (of-query 3) 5  -- same (), "ab"
+    ∷ trial (row 4 0 2 0 ∷ row 1 0 0 0 ∷ row 10 1 2 0 ∷ []) (row 4 3 0 0 ∷ []) 1 none (of-query 3) 5  -- same "ab", ()
+    ∷ trial (row 5 0 0 0 ∷ row 5 0 0 0 ∷ row 2 1 2 0 ∷ row 4 0 2 0 ∷ row 10 3 4 0 ∷ []) (row 4 5 0 0 ∷ []) 1 none (of-query 5) 10  -- same true, true, "ab"
+    ∷ trial (row 4 0 2 0 ∷ row 5 0 0 0 ∷ row 5 0 0 0 ∷ row 2 2 3 0 ∷ row 10 1 4 0 ∷ []) (row 4 5 0 0 ∷ []) 1 none (of-query 5) 10  -- same "ab", true, true
+    ∷ trial (row 5 0 0 0 ∷ row 4 0 2 0 ∷ row 10 1 2 0 ∷ []) (row 4 3 0 0 ∷ []) 1 none (of-query 3) 6  -- same true, "ab"
+    ∷ trial (row 4 0 2 0 ∷ row 5 0 0 0 ∷ row 10 1 2 0 ∷ []) (row 4 3 0 0 ∷ []) 1 none (of-query 3) 6  -- same "ab", true
+    ∷ trial (row 1 0 0 0 ∷ row 3 1 1 0 ∷ row 4 0 2 0 ∷ row 10 2 3 0 ∷ []) (row 4 4 0 0 ∷ []) 1 none (of-query 4) 7  -- same a, "ab"
+    ∷ trial (row 4 0 2 0 ∷ row 1 0 0 0 ∷ row 3 1 2 0 ∷ row 10 1 3 0 ∷ []) (row 4 4 0 0 ∷ []) 1 none (of-query 4) 7  -- same "ab", a
+    -- if () as a query, joined to true: the copy of true is not yet paid
+    ∷ trial (row 5 0 0 0 ∷ row 1 0 0 0 ∷ row 1 0 0 0 ∷ row 1 0 0 0 ∷ row 9 2 3 4 ∷ row 2 1 5 0 ∷ []) (row 4 6 0 0 ∷ []) 1 none (of-query 5) 6
+    ∷ trial [] (row 6 2 0 0 ∷ row 13 1 0 0 ∷ []) 2 a-and-text (of-statement 1) 7  -- iter [rename b] on a, "ab": the first result is paid before the second tree
+    -- left [insert true]; insert () on the result: the new part is paid
+    ∷ trial (row 5 0 0 0 ∷ row 1 0 0 0 ∷ []) (row 4 1 0 0 ∷ row 11 1 0 0 ∷ row 4 2 0 0 ∷ row 2 2 3 0 ∷ []) 4 none (of-statement 3) 7
     ∷ []
 
 pub all-stick : Each Sticks stuck-trials
 unfolding small shape ties runs
-all-stick = (sticks refl refl refl refl refl, (sticks refl refl refl refl refl, (sticks refl refl refl refl refl, (sticks refl refl refl refl refl, (sticks refl refl refl refl refl, (sticks refl refl refl refl refl, (sticks refl refl refl refl refl, (sticks refl refl refl refl refl, (sticks refl refl refl refl refl, (sticks refl refl refl refl refl, (sticks refl refl refl refl refl, (sticks refl refl refl refl refl, (sticks refl refl refl refl refl, (sticks refl refl refl refl refl, (sticks refl refl refl refl refl, (sticks refl refl refl refl refl, (sticks refl refl refl refl refl, (sticks refl refl refl refl refl, (sticks refl refl refl refl refl, (sticks refl refl refl refl refl, (sticks refl refl refl refl refl, (sticks refl refl refl refl refl, (sticks refl refl refl refl refl, (sticks refl refl refl refl refl, (sticks refl refl refl refl refl, (sticks refl refl refl refl refl, (sticks refl refl refl refl refl, (sticks refl refl refl refl refl, (sticks refl refl refl refl refl, tt)))))))))))))))))))))))))))))
+all-stick = (
+  sticks refl refl refl refl refl,
+  (
+    sticks refl refl refl refl refl,
+    (
+      sticks refl refl refl refl refl,
+      (
+        sticks refl refl refl refl refl,
+        (
+          sticks refl refl refl refl refl,
+          (
+            sticks refl refl refl refl refl,
+            (
+              sticks refl refl refl refl refl,
+              (
+                sticks refl refl refl refl refl,
+                (
+                  sticks refl refl refl refl refl,
+                  (
+                    sticks refl refl refl refl refl,
+                    (
+                      sticks refl refl refl refl refl,
+                      (
+                        sticks refl refl refl refl refl,
+                        (
+                          sticks refl refl refl refl refl,
+                          (
+                            sticks refl refl refl refl refl,
+                            (
+                              sticks refl refl refl refl refl,
+                              (
+                                sticks refl refl refl refl refl,
+                                (
+                                  sticks refl refl refl refl refl,
+                                  (
+                                    sticks refl refl refl refl refl,
+                                    (
+                                      sticks refl refl refl refl refl,
+                                      (
+                                        sticks refl refl refl refl refl,
+                                        (
+                                          sticks refl refl refl refl refl,
+                                          (
+                                            sticks refl refl refl refl refl,
+                                            (
+                                              sticks refl refl refl refl refl,
+                                              (
+                                                sticks refl refl refl refl refl,
+                                                (
+                                                  sticks refl refl refl refl refl,
+                                                  (
+                                                    sticks refl refl refl refl refl,
+                                                    (sticks refl refl refl refl refl, (sticks refl refl refl refl refl, (sticks refl refl refl refl refl, tt))),
+                                                  ),
+                                                ),
+                                              ),
+                                            ),
+                                          ),
+                                        ),
+                                      ),
+                                    ),
+                                  ),
+                                ),
+                              ),
+                            ),
+                          ),
+                        ),
+                      ),
+                    ),
+                  ),
+                ),
+              ),
+            ),
+          ),
+        ),
+      ),
+    ),
+  ),
+)
 
 -- ---- checks that are mismatched
 
@@ -112,22 +193,46 @@ typing types queries statements main place units = record { sheet = typed [] typ
 
 abbrev pub mismatch-trials : List Trial
 mismatch-trials =
-    typing (tr 1 0 0 ∷ tr 4 1 1 ∷ tr 7 2 0 ∷ []) [] (row 1 0 0 0 ∷ row 9 1 0 1 ∷ []) 2 (of-statement 2) 1 -- text? on a*
-  ∷ typing (tr 1 0 0 ∷ tr 4 1 1 ∷ tr 7 2 0 ∷ []) [] (row 1 0 0 0 ∷ row 9 2 1 1 ∷ []) 2 (of-statement 2) 1 -- a? on a*
-  ∷ typing (tr 1 0 0 ∷ tr 4 1 1 ∷ tr 7 2 0 ∷ []) [] (row 1 0 0 0 ∷ row 9 3 0 1 ∷ []) 2 (of-statement 2) 1 -- any tree? on a*
-  ∷ typing (tr 2 0 0 ∷ []) [] (row 1 0 0 0 ∷ row 10 1 0 0 ∷ []) 2 (of-statement 2) 1 -- children on text
-  ∷ typing (tr 3 0 0 ∷ []) [] (row 1 0 0 0 ∷ row 10 1 0 0 ∷ []) 2 (of-statement 2) 1 -- children on bool
-  ∷ typing (tr 1 0 0 ∷ tr 4 1 1 ∷ tr 7 2 0 ∷ []) [] (row 1 0 0 0 ∷ row 10 1 0 0 ∷ []) 2 (of-statement 2) 1 -- children on a*
-  ∷ typing (tr 2 0 0 ∷ []) [] (row 6 1 0 0 ∷ []) 1 (of-statement 1) 1 -- rename on text
-  ∷ typing (tr 3 0 0 ∷ []) [] (row 6 1 0 0 ∷ []) 1 (of-statement 1) 1 -- rename on bool
-  ∷ typing (tr 1 0 0 ∷ tr 4 1 1 ∷ tr 7 2 0 ∷ []) [] (row 6 1 0 0 ∷ []) 1 (of-statement 1) 1 -- rename on a*
-  ∷ typing (tr 1 0 0 ∷ []) (row 4 0 0 0 ∷ row 11 0 0 0 ∷ row 13 1 2 0 ∷ []) (row 1 0 0 0 ∷ row 7 3 1 0 ∷ []) 2 (of-query 2) 6 -- children of a text variable
-  ∷ typing (tr 1 0 0 ∷ []) (row 5 0 0 0 ∷ row 11 0 0 0 ∷ row 13 1 2 0 ∷ []) (row 1 0 0 0 ∷ row 7 3 1 0 ∷ []) 2 (of-query 2) 6 -- children of a bool variable
+    typing (tr 1 0 0 ∷ tr 4 1 1 ∷ tr 7 2 0 ∷ []) [] (row 1 0 0 0 ∷ row 9 1 0 1 ∷ []) 2 (of-statement 2) 1  -- text? on a*
+    ∷ typing (tr 1 0 0 ∷ tr 4 1 1 ∷ tr 7 2 0 ∷ []) [] (row 1 0 0 0 ∷ row 9 2 1 1 ∷ []) 2 (of-statement 2) 1  -- a? on a*
+    ∷ typing (tr 1 0 0 ∷ tr 4 1 1 ∷ tr 7 2 0 ∷ []) [] (row 1 0 0 0 ∷ row 9 3 0 1 ∷ []) 2 (of-statement 2) 1  -- any tree? on a*
+    ∷ typing (tr 2 0 0 ∷ []) [] (row 1 0 0 0 ∷ row 10 1 0 0 ∷ []) 2 (of-statement 2) 1  -- children on text
+    ∷ typing (tr 3 0 0 ∷ []) [] (row 1 0 0 0 ∷ row 10 1 0 0 ∷ []) 2 (of-statement 2) 1  -- children on bool
+    ∷ typing (tr 1 0 0 ∷ tr 4 1 1 ∷ tr 7 2 0 ∷ []) [] (row 1 0 0 0 ∷ row 10 1 0 0 ∷ []) 2 (of-statement 2) 1  -- children on a*
+    ∷ typing (tr 2 0 0 ∷ []) [] (row 6 1 0 0 ∷ []) 1 (of-statement 1) 1  -- rename on text
+    ∷ typing (tr 3 0 0 ∷ []) [] (row 6 1 0 0 ∷ []) 1 (of-statement 1) 1  -- rename on bool
+    ∷ typing (tr 1 0 0 ∷ tr 4 1 1 ∷ tr 7 2 0 ∷ []) [] (row 6 1 0 0 ∷ []) 1 (of-statement 1) 1  -- rename on a*
+    ∷ typing (tr 1 0 0 ∷ []) (row 4 0 0 0 ∷ row 11 0 0 0 ∷ row 13 1 2 0 ∷ []) (row 1 0 0 0 ∷ row 7 3 1 0 ∷ []) 2 (of-query 2) 6  -- children of a text variable
+    ∷ typing (tr 1 0 0 ∷ []) (row 5 0 0 0 ∷ row 11 0 0 0 ∷ row 13 1 2 0 ∷ []) (row 1 0 0 0 ∷ row 7 3 1 0 ∷ []) 2 (of-query 2) 6  -- children of a bool variable
     ∷ []
 
 pub all-mismatch : Each Mismatches mismatch-trials
 unfolding typed shape ties checks
-all-mismatch = (mismatches refl refl refl tt refl refl, (mismatches refl refl refl tt refl refl, (mismatches refl refl refl tt refl refl, (mismatches refl refl refl tt refl refl, (mismatches refl refl refl tt refl refl, (mismatches refl refl refl tt refl refl, (mismatches refl refl refl tt refl refl, (mismatches refl refl refl tt refl refl, (mismatches refl refl refl tt refl refl, (mismatches refl refl refl tt refl refl, (mismatches refl refl refl tt refl refl, tt)))))))))))
+all-mismatch = (
+  mismatches refl refl refl tt refl refl,
+  (
+    mismatches refl refl refl tt refl refl,
+    (
+      mismatches refl refl refl tt refl refl,
+      (
+        mismatches refl refl refl tt refl refl,
+        (
+          mismatches refl refl refl tt refl refl,
+          (
+            mismatches refl refl refl tt refl refl,
+            (
+              mismatches refl refl refl tt refl refl,
+              (
+                mismatches refl refl refl tt refl refl,
+                (mismatches refl refl refl tt refl refl, (mismatches refl refl refl tt refl refl, (mismatches refl refl refl tt refl refl, tt))),
+              ),
+            ),
+          ),
+        ),
+      ),
+    ),
+  ),
+)
 
 -- ---- types that are tied
 
@@ -143,7 +248,8 @@ module _ {t : Trial} (s : shapely (t .sheet) ≡ true) where
       → none-tied (scriptOf (t .sheet)) (λ x y. eqb x (t .place .row) && ltb y (t .place .flag)) ≡ true → Ties t
   tie-unnamed n = tie-so (no-names (t .sheet) n)
 
-  tie-named : scriptOf (t .sheet) .names ≡ 1 → Fertile (namesIn (scriptOf (t .sheet))) 1 → tied (scriptOf (t .sheet)) (t .place .row) (t .place .flag) ≡ true → none-tied (scriptOf (t .sheet)) (λ x y. ltb x (t .place .row)) ≡ true
+  tie-named : scriptOf (t .sheet) .names ≡ 1 → Fertile (namesIn (scriptOf (t .sheet))) 1 → tied (scriptOf (t .sheet)) (t .place .row) (t .place .flag) ≡ true
+      → none-tied (scriptOf (t .sheet)) (λ x y. ltb x (t .place .row)) ≡ true
       → none-tied (scriptOf (t .sheet)) (λ x y. eqb x (t .place .row) && ltb y (t .place .flag)) ≡ true → Ties t
   tie-named n f = tie-so (one-name (t .sheet) n f)
 
@@ -153,22 +259,30 @@ tying names types x y = record { sheet = typed names types [] (row 1 0 0 0 ∷ [
 
 abbrev pub tie-trials : List Trial
 tie-trials =
-    tying [] (tr 2 0 0 ∷ tr 7 1 0 ∷ tr 2 0 0 ∷ tr 5 2 3 ∷ []) 1 3 -- text*, text
-  ∷ tying [] (tr 3 0 0 ∷ tr 7 1 0 ∷ tr 3 0 0 ∷ tr 5 2 3 ∷ []) 1 3 -- bool*, bool
-  ∷ tying [] (tr 1 0 0 ∷ tr 4 1 1 ∷ tr 1 0 0 ∷ tr 4 2 3 ∷ tr 1 0 0 ∷ tr 6 4 5 ∷ tr 5 2 6 ∷ tr 1 0 0 ∷ tr 4 2 8 ∷ tr 1 0 0 ∷ tr 4 3 10 ∷ tr 6 9 11 ∷ tr 5 7 12 ∷ []) 4 9 -- (a, (b | ())), (b | c): behind a, where what may be left out is
-  ∷ tying [] (tr 1 0 0 ∷ tr 4 1 1 ∷ tr 1 0 0 ∷ tr 6 2 3 ∷ tr 1 0 0 ∷ tr 4 2 5 ∷ tr 1 0 0 ∷ tr 4 1 7 ∷ tr 1 0 0 ∷ tr 6 8 9 ∷ tr 5 6 10 ∷ tr 5 4 11 ∷ tr 7 12 0 ∷ []) 2 8 -- ((a | ()), b, (a | ()))*: behind b, by the loop back alone
-  ∷ tying [] (tr 1 0 0 ∷ tr 4 1 1 ∷ tr 7 2 0 ∷ tr 1 0 0 ∷ tr 4 1 4 ∷ tr 5 3 5 ∷ tr 4 4 6 ∷ []) 2 5 -- d[a*, a]: in a content
+    tying [] (tr 2 0 0 ∷ tr 7 1 0 ∷ tr 2 0 0 ∷ tr 5 2 3 ∷ []) 1 3  -- text*, text
+    ∷ tying [] (tr 3 0 0 ∷ tr 7 1 0 ∷ tr 3 0 0 ∷ tr 5 2 3 ∷ []) 1 3  -- bool*, bool
+    -- (a, (b | ())), (b | c): behind a, where what may be left out is
+    ∷ tying [] (tr 1 0 0 ∷ tr 4 1 1 ∷ tr 1 0 0 ∷ tr 4 2 3 ∷ tr 1 0 0 ∷ tr 6 4 5 ∷ tr 5 2 6 ∷ tr 1 0 0 ∷ tr 4 2 8 ∷ tr 1 0 0 ∷ tr 4 3 10 ∷ tr 6 9 11 ∷ tr 5 7 12 ∷ []) 4 9
+    -- ((a | ()), b, (a | ()))*: behind b, by the loop back alone
+    ∷ tying [] (tr 1 0 0 ∷ tr 4 1 1 ∷ tr 1 0 0 ∷ tr 6 2 3 ∷ tr 1 0 0 ∷ tr 4 2 5 ∷ tr 1 0 0 ∷ tr 4 1 7 ∷ tr 1 0 0 ∷ tr 6 8 9 ∷ tr 5 6 10 ∷ tr 5 4 11 ∷ tr 7 12 0 ∷ []) 2 8
+    ∷ tying [] (tr 1 0 0 ∷ tr 4 1 1 ∷ tr 7 2 0 ∷ tr 1 0 0 ∷ tr 4 1 4 ∷ tr 5 3 5 ∷ tr 4 4 6 ∷ []) 2 5  -- d[a*, a]: in a content
     ∷ []
 
 pub all-tie : Each Ties tie-trials
 unfolding typed shape ties
-all-tie = (tie-unnamed refl refl refl refl refl, (tie-unnamed refl refl refl refl refl, (tie-unnamed refl refl refl refl refl, (tie-unnamed refl refl refl refl refl, (tie-unnamed refl refl refl refl refl, tt)))))
+all-tie = (
+  tie-unnamed refl refl refl refl refl,
+  (
+    tie-unnamed refl refl refl refl refl,
+    (tie-unnamed refl refl refl refl refl, (tie-unnamed refl refl refl refl refl, (tie-unnamed refl refl refl refl refl, tt))),
+  ),
+)
 
 -- a name acts as its label row
 abbrev pub name-trials : List Trial
 name-trials =
-    tying (2 ∷ []) (tr 1 0 0 ∷ tr 4 2 1 ∷ tr 8 1 0 ∷ tr 7 3 0 ∷ tr 8 1 0 ∷ tr 5 4 5 ∷ []) 3 5 -- X*, X, where X = b
-  ∷ tying (2 ∷ []) (tr 1 0 0 ∷ tr 4 2 1 ∷ tr 8 1 0 ∷ tr 7 3 0 ∷ tr 1 0 0 ∷ tr 4 2 5 ∷ tr 5 4 6 ∷ []) 3 6 -- X*, b, where X = b
+    tying (2 ∷ []) (tr 1 0 0 ∷ tr 4 2 1 ∷ tr 8 1 0 ∷ tr 7 3 0 ∷ tr 8 1 0 ∷ tr 5 4 5 ∷ []) 3 5  -- X*, X, where X = b
+    ∷ tying (2 ∷ []) (tr 1 0 0 ∷ tr 4 2 1 ∷ tr 8 1 0 ∷ tr 7 3 0 ∷ tr 1 0 0 ∷ tr 4 2 5 ∷ tr 5 4 6 ∷ []) 3 6  -- X*, b, where X = b
     ∷ []
 
 pub names-tie : Each Ties name-trials

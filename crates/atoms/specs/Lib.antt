@@ -1,4 +1,0 @@
--- Types worked through part by part.
-pub mod Parts
-pub mod Both
-pub mod Picked

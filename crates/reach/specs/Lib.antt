@@ -1,2 +1,0 @@
--- The pairs of places that one tree can reach.
-pub mod Reach

@@ -1,2 +1,0 @@
--- What becomes of a result.
-pub mod Hands

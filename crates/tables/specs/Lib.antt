@@ -1,2 +1,0 @@
--- The sheet's tables, made once.
-pub mod Lent

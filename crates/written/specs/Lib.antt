@@ -1,2 +1,0 @@
--- What it is to write a type out, and the laws of the loop that does.
-pub mod Writing
