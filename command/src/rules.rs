@@ -18,11 +18,6 @@ pub const SAME: Rule = Rule {
     wants: "each side of `=` must be of type text",
     advice: "give one text on each side; what is in a tree x of `for` is `children(x)`",
 };
-pub const CHILDREN_OF: Rule = Rule {
-    of: "",
-    wants: "`children` of a variable needs one whose type is a labelled tree",
-    advice: "let `for` go through labelled trees alone: `for x in q :: a return children(x)`",
-};
 pub const INSERT: Rule = Rule {
     of: "the focus of `insert`",
     wants: "`insert` needs an empty focus, of type ()",

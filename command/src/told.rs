@@ -6,7 +6,7 @@ use crate::limits::{self, Walk};
 use crate::messages::{shown, Mark, Message};
 use crate::parts::{self, Output, Passed};
 use crate::refusals::{self, advised, message};
-use crate::rules::{Rule, CHILDREN, CHILDREN_OF, CONDITION, INSERT, RENAME, SAME, TEST};
+use crate::rules::{Rule, CHILDREN, CONDITION, INSERT, RENAME, SAME, TEST};
 use crate::unfit;
 use archive::Reply;
 use notation::limits::FUEL;
@@ -184,14 +184,12 @@ impl Asked<'_> {
     }
 
     fn query_rule(&self, row: u16) -> Message {
-        match self.work.sheet.queries[usize::from(row) - 1] {
-            [9, condition, ..] => self.unmet(Table::Queries, row, &CONDITION, self.part(condition, NOT_BOOL)),
-            [10, left, right, _] => {
-                let side = [left, right][parts::side_of_same(&self.work.sheet, row, self.reply.number)];
-                self.unmet(Table::Queries, row, &SAME, self.part(side, "this is not always one text"))
-            }
-            _ => self.unmet(Table::Queries, row, &CHILDREN_OF, vec![]),
+        let [kind, left, right, _] = self.work.sheet.queries[usize::from(row) - 1];
+        if kind == 9 {
+            return self.unmet(Table::Queries, row, &CONDITION, self.part(left, NOT_BOOL));
         }
+        let side = [left, right][parts::side_of_same(&self.work.sheet, row, self.reply.number)];
+        self.unmet(Table::Queries, row, &SAME, self.part(side, "this is not always one text"))
     }
 
     fn statement_rule(&self, row: u16) -> Message {

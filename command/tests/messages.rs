@@ -16,7 +16,6 @@ fn other_bytes_that_are_right() {
 fn places_in_the_worked_examples() {
     for (name, place, wanted) in [
         ("order-bodies", "13:3", "error[8 Mismatch]: `rename`"),
-        ("mismatch-children-query", "9:51", "error[8 Mismatch]: `children` of a variable"),
         ("mismatch-else", "11:26", "error[8 Mismatch]: `rename`"),
         ("mismatch-insert", "11:3", "error[8 Mismatch]: `insert`"),
         ("not-included-focus", "16:3", "error[9 Not included]: the focus at the call of `kept`"),

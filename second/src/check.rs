@@ -130,10 +130,12 @@ impl<'a> Walk<'a> {
                 self.ask(right, self.text, asker, mismatch)?;
                 self.write(Type::Bool)
             }
-            // "Query kind 11 needs a variable whose atom is labelled."
-            Query::Children { variable } => {
-                self.types.content(*scope.value(variable)).ok_or(mismatch)
-            }
+            // A label's content. For text or bool "such a query shall have type empty, with one
+            // type row written".
+            Query::Children { variable } => match self.types.content(*scope.value(variable)) {
+                Some(content) => Ok(content),
+                None => self.write(Type::Empty),
+            },
             Query::Pick { from, label } => {
                 let from = self.query(from, scope, below)?;
                 self.each_atom(from, &mut |walk, atom| walk.pick(atom, label))

@@ -168,6 +168,18 @@ fn names_are_opened() {
     yields(St::iter(St::Skip), Ty::Name(1));
 }
 
+/// Children of a text or bool are nothing, so a loop over mixed content has a type.
+#[test]
+fn children_of_mixed_content() {
+    let mixed = Ty::Text.or(Ty::label(A, Ty::Bool)).or(Ty::Bool).star();
+    let children = Qu::Variable(0).each(Qu::Children(1));
+    let main = St::snapshot(St::Delete.then(St::Insert(children)));
+    let (types, row) =
+        output_type(&Script::new(mixed, main, Ty::Empty).sheet()).expect("it has a type");
+    let inside = Ty::Empty.or(Ty::Bool).or(Ty::Empty).star();
+    assert_eq!(Ty::of(&types, row), inside);
+}
+
 /// Types are never simplified, and a visited `()` is handed on.
 #[test]
 fn types_are_rebuilt_as_they_are() {

@@ -185,6 +185,9 @@ fn check_units_of_queries() {
     // Three rows visited, the body typed twice, the sequence rebuilt.
     query_checks_in(8 + 1 + 3 + 2 + 1, pair().each(Qu::Variable(0)));
     query_checks_in(4 + 1 + 1 + 1, leaf(A).each(Qu::Children(0)));
+    // Children of a text or bool write their `()`.
+    query_checks_in(2 + 1 + 1 + 2, text().each(Qu::Children(0)));
+    query_checks_in(2 + 1 + 1 + 2, Qu::Bool(true).each(Qu::Children(0)));
     query_checks_in(2 + 1 + 1, Qu::Empty.each(Qu::Variable(0)));
 }
 
@@ -237,8 +240,6 @@ fn check_refusals_come_in_the_order_of_a_row() {
     let query = |row| Err(Refusal::Mismatch(Asker::Query(row)));
     let same = St::Insert(Qu::Bool(true).same(text()));
     refused(1 + 1 + 2 + 2, Ty::Empty, same, query(3));
-    let children = St::Insert(text().each(Qu::Children(0)));
-    refused(1 + 1 + 2 + 1 + 1, Ty::Empty, children, query(2));
     let not_included = |asker| Err(Refusal::NotIncluded(asker));
     let call = |first, second| St::Call(1, vec![first, second]);
     let by_call = || not_included(Asker::Statement(2));

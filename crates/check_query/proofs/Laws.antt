@@ -142,29 +142,30 @@ module _ (s : List ℕ) (d at v : ℕ) {work : List ℕ} {e : Scope} {used left 
   unfolding query-type
   variable-finds p = finds-as (ap (λ (τ : Ty). ret τ) type-at) (finds-of (typed-ret (p .left) (ready .room .grows) value-inside))
 
-  pub inside-finds : {left' : ℕ} {a : Found} → Finds (inside-type (of-query at) (atomOf (namesIn (scriptOf s)) (tyIn s work used r))) s left' used work work a → Finds (row-asked s work used e d at (Query.children v)) s left' used work work a
+  pub inside-finds : {left' : ℕ} {new : List ℕ} {a : Found} → Finds (inside-type (of-query at) (atomOf (namesIn (scriptOf s)) (tyIn s work used r))) s left' used work new a → Finds (row-asked s work used e d at (Query.children v)) s left' used work new a
   unfolding query-type
   inside-finds b = finds-as (ap (λ (τ : Ty). inside-type (of-query at) (atomOf (namesIn (scriptOf s)) τ)) type-at) b
 
--- ---- a labelled atom's content
+-- ---- what is inside an atom
 
-module _ (s work : List ℕ) (used root at : ℕ) (p : Purse) where
-  pub inside-label : {k c : ℕ} → Grows s work used → ActsBy s work used root (Label k c) → Finds (inside-type (of-query at) (atomOf (namesIn (scriptOf s)) (tyIn s work used root))) s (p .left) used work work (Done c used p)
+module _ (s work : List ℕ) (used root at : ℕ) where
+  abbrev atom : types.Atom
+  atom = atomOf (namesIn (scriptOf s)) (tyIn s work used root)
+
+  pub inside-label : (p : Purse) {k c : ℕ} → Grows s work used → ActsBy s work used root (Label k c) → Finds (inside-type (of-query at) atom) s (p .left) used work work (Done c used p)
   unfolding inside-type
-  inside-label g h = finds-as (ap (inside-type (of-query at)) (h .is)) (finds-of (typed-ret (p .left) g (h .inside)))
+  inside-label p g h = finds-as (ap (inside-type (of-query at)) (h .is)) (finds-of (typed-ret (p .left) g (h .inside)))
 
-  not-inside : {t : types.Atom} → atomOf (namesIn (scriptOf s)) (tyIn s work used root) ≡ t → inside-type (of-query at) t ≡ inside-type (of-query at) types.Atom.no-atom
-      → Finds (inside-type (of-query at) (atomOf (namesIn (scriptOf s)) (tyIn s work used root))) s (p .left) used work work (Not (Mismatch at 1 p))
+  pub inside-other : (p : Purse) → atom ≡ types.Atom.no-atom → Finds (inside-type (of-query at) atom) s (p .left) used work work (Not (Mismatch at 1 p))
   unfolding inside-type
-  not-inside e h = finds-as (ap (inside-type (of-query at)) e ∙ h) (finds-halt (halt-mismatch s at 1 p))
+  inside-other p e = finds-as (ap (inside-type (of-query at)) e) (finds-halt (halt-mismatch s at 1 p))
 
-  pub inside-other : atomOf (namesIn (scriptOf s)) (tyIn s work used root) ≡ types.Atom.no-atom → Finds (inside-type (of-query at) (atomOf (namesIn (scriptOf s)) (tyIn s work used root))) s (p .left) used work work (Not (Mismatch at 1 p))
-  inside-other e = not-inside e refl
+  -- () is written
+  module _ {left : ℕ} {new : List ℕ} {a : Found} (m : Finds (written (tyForm (typeForm (record { kind = 1; p = 0; q = 0; r = 0 })) (tyIn s work used))) s left used work new a) where
+    pub inside-text : atom ≡ types.Atom.text → Finds (inside-type (of-query at) atom) s left used work new a
+    unfolding inside-type tyForm
+    inside-text e = finds-as (ap (inside-type (of-query at)) e) m
 
-  pub inside-text : atomOf (namesIn (scriptOf s)) (tyIn s work used root) ≡ types.Atom.text → Finds (inside-type (of-query at) (atomOf (namesIn (scriptOf s)) (tyIn s work used root))) s (p .left) used work work (Not (Mismatch at 1 p))
-  unfolding inside-type
-  inside-text e = not-inside e refl
-
-  pub inside-bool : atomOf (namesIn (scriptOf s)) (tyIn s work used root) ≡ types.Atom.bool → Finds (inside-type (of-query at) (atomOf (namesIn (scriptOf s)) (tyIn s work used root))) s (p .left) used work work (Not (Mismatch at 1 p))
-  unfolding inside-type
-  inside-bool e = not-inside e refl
+    pub inside-bool : atom ≡ types.Atom.bool → Finds (inside-type (of-query at) atom) s left used work new a
+    unfolding inside-type tyForm
+    inside-bool e = finds-as (ap (inside-type (of-query at)) e) m

@@ -10,7 +10,7 @@ use Rattle.meaning.specs.Kinds.{Query, queryAt}
 use Rattle.meaning.specs.Types.{Ty, namesIn}
 use Rattle.meaning.specs.Reply.{done, Loads}
 use Rattle.meaning.specs.Walk.{of-query, ask, tick, _>>=_}
-use Rattle.meaning.specs.Check.{Asking, eight, is-in, written, query-type, infer}
+use Rattle.meaning.specs.Check.{Asking, eight, is-in, written, query-type, infer, infer-by}
 use Rattle.walk.specs.Scope.{More, scoped-with}
 use Rattle.walk.specs.Fits.{deeper}
 use Rattle.walk.specs.declared.Scope.{Scope}
@@ -67,7 +67,7 @@ module _ {s work : List ℕ} {e : Scope} {used left : ℕ} {fit : Bool} (a : Ask
 
 module _ (s work : List ℕ) (n : ℕ) (e : Scope) (d at : ℕ) where
   asked-is : {form : Query} → (d ≡ 0 → ⊥) → queryAt (scriptOf s) at ≡ form → asked s work n e d at ≡ tick (row-asked s work n e (d - 1) at form)
-  unfolding infer
+  unfolding infer-by query-type
   asked-is some is = ap (λ (k : ℕ). asked s work n e k at) (deeper d some) ∙ ap (λ (x : Query). tick (row-asked s work n e (d - 1) at x)) is
 
   -- by what it says, for one unit
@@ -76,7 +76,7 @@ module _ (s work : List ℕ) (n : ℕ) (e : Scope) (d at : ℕ) where
   ask-as some is left p m = finds-as (asked-is some is) (finds-tick left p m)
 
   pub ask-deep : (p : Purse) → d ≡ 0 → Halted (asked s work n e d at) s (p .left) (Depth p)
-  unfolding infer
+  unfolding infer-by query-type
   ask-deep p h = subst (λ (k : ℕ). Halted (asked s work n e k at) s (p .left) (Depth p)) (sym h) (halt-depth s p)
 
   pub ask-fuel : (left : ℕ) → (d ≡ 0 → ⊥) → left < 1 → Halted (asked s work n e d at) s left Fuel

@@ -47,12 +47,12 @@ fn two_texts(
     }
 }
 
-// The content of a labelled atom, else Mismatch.
-fn inside(s: &[u8], work: &[u8], used: usize, at: usize, root: usize, purse: Purse) -> Found
+// What is inside a variable's atom: a label's content; nothing in a text or bool, and that is written. A tree variable has an atom.
+fn inside(s: &[u8], work: &mut [u8], used: usize, at: usize, root: usize, purse: Purse) -> Found
     requires { ⌜ (Loads (now s) done) × (Room (now s) (now work) used (purse .left)) × (root ≤ top (now s) + used) ⌝ }
     ensures { λ a. ⌜ Finds (inside-type (of-query at)
         (atomOf (namesIn (scriptOf (now (s .entry)))) (tyIn (now (s .entry)) (now (work .entry)) used root))) (now (s .entry))
-        (purse .left) used (now (work .entry)) (now (work .entry)) a ⌝ }
+        (purse .left) used (now (work .entry)) (now (work .exit)) a ⌝ }
 {
     match type_rows::atom_of(s, work, root) {
         Atom::Label(_, content) => Found::Done {
@@ -61,8 +61,8 @@ fn inside(s: &[u8], work: &[u8], used: usize, at: usize, root: usize, purse: Pur
             purse,
         },
         Atom::Other => Found::Not(Halt::Mismatch(at, 1, purse)),
-        Atom::Text => Found::Not(Halt::Mismatch(at, 1, purse)),
-        Atom::Bool => Found::Not(Halt::Mismatch(at, 1, purse)),
+        Atom::Text => write(s, work, used, 1, 0, 0, purse),
+        Atom::Bool => write(s, work, used, 1, 0, 0, purse),
     }
 }
 

@@ -13,7 +13,7 @@ use Rattle.meaning.specs.Types.{Ty, declared}
 use Rattle.meaning.specs.Shape.{Holds, parameters-scope, statement-scoped, shapely}
 use Rattle.meaning.specs.Reply.{done, Loads}
 use Rattle.meaning.specs.Walk.{of-output, ret, ask}
-use Rattle.meaning.specs.Check.{nine, is-in, body, typesAt}
+use Rattle.meaning.specs.Check.{nine, is-in, body, body-by, typesAt}
 use Rattle.meaning.specs.Laws.Shaped.{few-types}
 use Rattle.meaning.specs.Laws.Tests.{in-table}
 use Rattle.meaning.specs.Laws.Scoped.{main-in-scope, body-in-scope}
@@ -40,11 +40,11 @@ use Rattle.check_statement.proofs.Calling.{present-none, present-one, p
 
 module _ {s work : List ℕ} {e : Scope} {used input left : ℕ} (ready : Ready s work e used input left) (at output : ℕ) where
   pub body-halts : {why : Halt} → Halted (goes s work used e 200 at input) s left why → Halted (body (scriptOf s) (typesOf s work used e) at (tyIn s work used input) (declared (scriptOf s) output)) s left why
-  unfolding body
+  unfolding body-by
   body-halts h = halt-then (λ (x : Ty). ask (is-in x (declared (scriptOf s) output) nine of-output) (ret x)) h
 
   pub body-finds : {mid : List ℕ} {root n left' : ℕ} {a : Found} → Typed (goes s work used e 200 at input) s left used work mid root n left' → LiesGives s mid n 0 0 root output root left' a → BodyGives s work mid e used at input output left a
-  unfolding body
+  unfolding body-by
   body-finds f m = finds-then (λ (x : Ty). ask (is-in x (declared (scriptOf s) output) nine of-output) (ret x)) f m
 
 -- ---- a procedure

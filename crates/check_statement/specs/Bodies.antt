@@ -15,7 +15,7 @@ use Rattle.meaning.specs.Types.{Ty, declared}
 use Rattle.meaning.specs.Reply.{done, Loads}
 use Rattle.meaning.specs.Shape.{wordOk, wordsOk, typeUses, shapely}
 use Rattle.meaning.specs.Walk.{_>>=_}
-use Rattle.meaning.specs.Check.{Asking, declaration, body, bodies, check-walk}
+use Rattle.meaning.specs.Check.{Asking, declaration, body, bodies, check-walk, bodies-by, check-by}
 use Rattle.meaning.specs.Laws.Apart.{Low, shaped-lower}
 use Rattle.meaning.specs.Laws.Bools.{and-left, and-right}
 use Rattle.meaning.specs.Laws.Tests.{table-high}
@@ -50,7 +50,7 @@ onward S c zero w = w
 onward S c (suc m) w = procedure-walk S (suc c) >>= λ x. onward S (suc c) m w
 
 onward-bodies : (S : Script) (c m : ℕ) (w : Asking Ty) → bodies S c (onward S c m w) ≡ bodies S (c + m) w
-unfolding bodies onward
+unfolding bodies-by onward
 onward-bodies S c zero w = let e : c ≡ c + 0 = omega arith in ap (λ (k : ℕ). bodies S k w) e
 onward-bodies S c (suc m) w = let e : suc c + m ≡ c + suc m = omega arith in onward-bodies S (suc c) m w ∙ ap (λ (k : ℕ). bodies S k w) e
 
@@ -59,7 +59,7 @@ abbrev pub rest-of : Script → ℕ → Asking Ty
 rest-of S c = onward S c (S .procedures - c) (main-walk S)
 
 rest-all : (S : Script) → check-walk S ≡ rest-of S 0
-unfolding check-walk bodies
+unfolding check-by bodies-by
 rest-all S =
     let e : 0 + (S .procedures - 0) ≡ S .procedures = omega arith in
     sym (onward-bodies S 0 (S .procedures - 0) (main-walk S) ∙ ap (λ (k : ℕ). bodies S k (main-walk S)) e)

@@ -11,7 +11,7 @@ use Rattle.meaning.specs.Types.{Ty, namesIn, atomOf}
 use Rattle.meaning.specs.Reply.{done, Loads}
 use Rattle.meaning.specs.Run as meaning
 use Rattle.meaning.specs.Walk.{of-statement, tick, _>>=_}
-use Rattle.meaning.specs.Check.{Asking, written, parts, tests, rename-type, statement-type, declaration, infer, typing}
+use Rattle.meaning.specs.Check.{Asking, written, parts, tests, rename-type, statement-type, declaration, infer, typing, typing-by}
 use Rattle.walk.specs.Scope.{More, scoped-with}
 use Rattle.walk.specs.Fits.{deeper}
 use Rattle.walk.specs.declared.Scope.{Scope}
@@ -99,7 +99,7 @@ module _ {s work : List ℕ} {e : Scope} {used focus left : ℕ} {fit : Bool} (h
 
 module _ (s work : List ℕ) (n : ℕ) (e : Scope) (d at focus : ℕ) where
   goes-is : {form : Statement} → (d ≡ 0 → ⊥) → statementAt (scriptOf s) at ≡ form → goes s work n e d at focus ≡ tick (row-goes s work n e (d - 1) at form focus)
-  unfolding typing
+  unfolding typing-by
   goes-is some is = ap (λ (k : ℕ). goes s work n e k at focus) (deeper d some) ∙ ap (λ (x : Statement). tick (row-goes s work n e (d - 1) at x focus)) is
 
   -- by what it says, for one unit
@@ -108,7 +108,7 @@ module _ (s work : List ℕ) (n : ℕ) (e : Scope) (d at focus : ℕ) where
   goes-as some is left p m = finds-as (goes-is some is) (finds-tick left p m)
 
   pub goes-deep : (p : Purse) → d ≡ 0 → Halted (goes s work n e d at focus) s (p .left) (Depth p)
-  unfolding typing
+  unfolding typing-by
   goes-deep p h = subst (λ (k : ℕ). Halted (goes s work n e k at focus) s (p .left) (Depth p)) (sym h) (halt-depth s p)
 
   pub goes-fuel : (left : ℕ) → (d ≡ 0 → ⊥) → left < 1 → Halted (goes s work n e d at focus) s left Fuel

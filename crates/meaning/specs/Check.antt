@@ -122,12 +122,24 @@ children-type at Atom.text go = halt (mismatch at)
 children-type at Atom.bool go = halt (mismatch at)
 children-type at (Atom.label n τ) go = go τ >>= λ x. written (Ty.label n x)
 
--- query 11: the variable's atom is labelled
-unfoldable pub inside-type : Place → Atom → Asking Ty
+-- query 11, by the atom of its variable: the walk's parameter (`rule`)
+abbrev pub Rule : Type 0
+Rule = Place → Atom → Asking Ty
+
+-- the rule that holds: a label's content; (), a row written, for text and bool. A tree variable has an atom, so it is never Mismatch
+-- (Theorems/Sound/Unstuck)
+unfoldable pub inside-type : Rule
 inside-type at Atom.no-atom = halt (mismatch at)
-inside-type at Atom.text = halt (mismatch at)
-inside-type at Atom.bool = halt (mismatch at)
+inside-type at Atom.text = written Ty.empty
+inside-type at Atom.bool = written Ty.empty
 inside-type at (Atom.label n τ) = ret τ
+
+-- the rule before: a label, else Mismatch. What passed by it still passes (Theorems/Before)
+unfoldable pub inside-before : Rule
+inside-before at Atom.no-atom = halt (mismatch at)
+inside-before at Atom.text = halt (mismatch at)
+inside-before at Atom.bool = halt (mismatch at)
+inside-before at (Atom.label n τ) = ret τ
 
 -- a call's arguments, asked about in order (Shape gives a call as many as there are parameters)
 unfoldable pub ask-all : Place → List Ty → List Ty → Asking Ty → Asking Ty
@@ -138,23 +150,28 @@ ask-all at (σ ∷ l) (τ ∷ m) w = ask (is-in σ τ nine at) (ask-all at l m w
 
 -- ---- queries, figure 13
 
-module _ (names : ℕ → Named) where
-  unfoldable pub query-type : Query → ℕ → (Types → ℕ → Asking Ty) → Types → Asking Ty
-  query-type Query.none i go Γ = halt (mismatch (of-query i))
-  query-type Query.empty i go Γ = written Ty.empty
-  query-type (Query.join p q) i go Γ = go Γ p >>= λ x. go Γ q >>= λ y. written (Ty.seq x y)
-  query-type (Query.tree n q) i go Γ = go Γ q >>= λ x. written (Ty.label n x)
-  query-type (Query.text p q) i go Γ = written Ty.text
-  query-type (Query.bool b) i go Γ = written Ty.bool
-  query-type (Query.variable v) i go Γ = ret (getD Γ v Ty.empty)
-  query-type (Query.letin p q) i go Γ = go Γ p >>= λ x. go (Γ ++ x ∷ []) q
-  query-type (Query.if p q r) i go Γ = go Γ p >>= λ c. ask (is-in c Ty.bool eight (of-query i))
+module _ (rule : Rule) (names : ℕ → Named) where
+  unfoldable pub query-by : Query → ℕ → (Types → ℕ → Asking Ty) → Types → Asking Ty
+  query-by Query.none i go Γ = halt (mismatch (of-query i))
+  query-by Query.empty i go Γ = written Ty.empty
+  query-by (Query.join p q) i go Γ = go Γ p >>= λ x. go Γ q >>= λ y. written (Ty.seq x y)
+  query-by (Query.tree n q) i go Γ = go Γ q >>= λ x. written (Ty.label n x)
+  query-by (Query.text p q) i go Γ = written Ty.text
+  query-by (Query.bool b) i go Γ = written Ty.bool
+  query-by (Query.variable v) i go Γ = ret (getD Γ v Ty.empty)
+  query-by (Query.letin p q) i go Γ = go Γ p >>= λ x. go (Γ ++ x ∷ []) q
+  query-by (Query.if p q r) i go Γ = go Γ p >>= λ c. ask (is-in c Ty.bool eight (of-query i))
       (go Γ q >>= λ x. go Γ r >>= λ y. written (Ty.choice x y))
-  query-type (Query.same p q) i go Γ = go Γ p >>= λ x. go Γ q >>= λ y. ask (is-in x Ty.text eight (of-query i))
+  query-by (Query.same p q) i go Γ = go Γ p >>= λ x. go Γ q >>= λ y. ask (is-in x Ty.text eight (of-query i))
       (ask (is-in y Ty.text eight (of-query i)) (written Ty.bool))
-  query-type (Query.children v) i go Γ = inside-type (of-query i) (atomOf names (getD Γ v Ty.empty))
-  query-type (Query.pick p l) i go Γ = go Γ p >>= parts (λ α. picked (tests (Test.label l) (atomOf names α)) α)
-  query-type (Query.for p q) i go Γ = go Γ p >>= parts (λ α. go (Γ ++ α ∷ []) q)
+  query-by (Query.children v) i go Γ = rule (of-query i) (atomOf names (getD Γ v Ty.empty))
+  query-by (Query.pick p l) i go Γ = go Γ p >>= parts (λ α. picked (tests (Test.label l) (atomOf names α)) α)
+  query-by (Query.for p q) i go Γ = go Γ p >>= parts (λ α. go (Γ ++ α ∷ []) q)
+
+-- by the rule that holds
+unfoldable pub query-type : (ℕ → Named) → Query → ℕ → (Types → ℕ → Asking Ty) → Types → Asking Ty
+unfolding query-by
+query-type names = query-by inside-type names
 
 -- ---- statements, figure 4
 
@@ -198,25 +215,45 @@ declaration S c = record {
   output = declared S (S .procedureRow c .output);
 }
 
-module _ (S : Script) where
-  unfoldable pub infer : ℕ → Types → ℕ → Asking Ty
-  infer zero Γ i = halt depth
-  infer (suc d) Γ i = tick (query-type (namesIn S) (queryAt S i) i (infer d) Γ)
+module _ (rule : Rule) (S : Script) where
+  unfoldable pub infer-by : ℕ → Types → ℕ → Asking Ty
+  infer-by zero Γ i = halt depth
+  infer-by (suc d) Γ i = tick (query-by rule (namesIn S) (queryAt S i) i (infer-by d) Γ)
 
-  unfoldable pub typing : ℕ → Types → ℕ → Ty → Asking Ty
-  typing zero Γ i τ = halt depth
-  typing (suc d) Γ i τ = tick (statement-type (namesIn S) (declaration S) (statementAt S i) i (typing d) (infer d) Γ τ)
+  unfoldable pub typing-by : ℕ → Types → ℕ → Ty → Asking Ty
+  typing-by zero Γ i τ = halt depth
+  typing-by (suc d) Γ i τ = tick (statement-type (namesIn S) (declaration S) (statementAt S i) i (typing-by d) (infer-by d) Γ τ)
 
   -- a body, or main, against its declared output
-  unfoldable pub body : Types → ℕ → Ty → Ty → Asking Ty
-  body Γ i τ σ = typing most-depth Γ i τ >>= λ x. ask (is-in x σ nine of-output) (ret x)
+  unfoldable pub body-by : Types → ℕ → Ty → Ty → Asking Ty
+  body-by Γ i τ σ = typing-by most-depth Γ i τ >>= λ x. ask (is-in x σ nine of-output) (ret x)
 
   -- procedures 1 to n, in number order, and then what follows
-  unfoldable pub bodies : ℕ → Asking Ty → Asking Ty
-  bodies zero w = w
-  bodies (suc n) w = bodies n (body (declaration S (suc n) .parameters) (S .procedureRow (suc n) .body) (declaration S (suc n) .input)
-      (declaration S (suc n) .output) >>= λ x. w)
+  unfoldable pub bodies-by : ℕ → Asking Ty → Asking Ty
+  bodies-by zero w = w
+  bodies-by (suc n) w = bodies-by n (body-by (declaration S (suc n) .parameters) (S .procedureRow (suc n) .body)
+      (declaration S (suc n) .input) (declaration S (suc n) .output) >>= λ x. w)
 
   -- the whole: every procedure, then main from A to B
-  unfoldable pub check-walk : Asking Ty
-  check-walk = bodies (S .procedures) (body [] (S .main) (declared S (S .a)) (declared S (S .b)))
+  unfoldable pub check-by : Asking Ty
+  check-by = bodies-by (S .procedures) (body-by [] (S .main) (declared S (S .a)) (declared S (S .b)))
+
+-- by the rule that holds
+abbrev pub infer : Script → ℕ → Types → ℕ → Asking Ty
+infer S = infer-by inside-type S
+
+abbrev pub typing : Script → ℕ → Types → ℕ → Ty → Asking Ty
+typing S = typing-by inside-type S
+
+abbrev pub body : Script → Types → ℕ → Ty → Ty → Asking Ty
+body S = body-by inside-type S
+
+abbrev pub bodies : Script → ℕ → Asking Ty → Asking Ty
+bodies S = bodies-by inside-type S
+
+abbrev pub check-walk : Script → Asking Ty
+check-walk S = check-by inside-type S
+
+-- and by the rule before
+abbrev pub check-before : Script → Asking Ty
+check-before S = check-by inside-before S

@@ -1,5 +1,6 @@
 -- The paper's judgments, as document 01 narrows them: run by figures 3 and 12, typing by figures 4 and 13, with appendix A's judgments for
 -- pick and for.
+-- Figure 13 has children of a labelled variable only; here those of a text or bool are () too, as a run gives them.
 -- No units, no depth, no order. A premise `statementAt S i ≡ ..` says which rule a row is for. Subsumption stands only where document 01
 -- asks for inclusion, and arities are replaced by "an atom as written".
 -- What a rule looks at is said by relations of its own, not by functions of run and check; Laws/Figures shows that they agree.
@@ -124,6 +125,11 @@ pub data Labelled (names : ℕ → Named) : Ty → ℕ → Ty → Type 0 where
   l-label : {n : ℕ} {τ : Ty} → Labelled names (Ty.label n τ) n τ
   l-name : {x : ℕ} → Labelled names (Ty.name x) (names x .label) (names x .content)
 
+-- α is an atom without children
+pub data Childless : Ty → Type 0 where
+  c-text : Childless Ty.text
+  c-bool : Childless Ty.bool
+
 -- α <: φ (section 4): the test is for every tree of the atom
 pub data TestMatches (names : ℕ → Named) : Test → Ty → Type 0 where
   a-text : TestMatches names Test.text Ty.text
@@ -162,6 +168,7 @@ module _ (S : Script) where
           → Within (namesIn S) σ Ty.text → Has Γ i Ty.bool
       h-children : {Γ : Types} {i v n : ℕ} {τ : Ty} → queryAt S i ≡ Query.children v
           → Labelled (namesIn S) (getD Γ v Ty.empty) n τ → Has Γ i τ
+      h-childless : {Γ : Types} {i v : ℕ} → queryAt S i ≡ Query.children v → Childless (getD Γ v Ty.empty) → Has Γ i Ty.empty
       h-pick : {Γ : Types} {i p l : ℕ} {τ σ : Ty} → queryAt S i ≡ Query.pick p l → Has Γ p τ → Picks (namesIn S) l τ σ → Has Γ i σ
       h-for : {Γ : Types} {i p q : ℕ} {τ σ : Ty} → queryAt S i ≡ Query.for p q → Has Γ p τ → HasEach Γ q τ σ → Has Γ i σ
 

@@ -1,7 +1,8 @@
--- The theorems: walks and figures, replies and figures, soundness, steadiness, one result, and one for every input, wrong programs refuted,
--- round trips, and the worked examples.
+-- The theorems: walks and figures, what passed by the rule before, replies and figures, soundness, steadiness, one result, and one for
+-- every input, wrong programs refuted, round trips, and the worked examples.
 pub mod Worked
 pub mod ExactCheck
+pub mod Before
 pub mod Single
 pub mod Asked
 pub mod Answered

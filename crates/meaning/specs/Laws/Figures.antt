@@ -12,7 +12,7 @@ use Rattle.meaning.specs.Types.{Ty, Named, Atom, atomOf}
 use Rattle.meaning.specs.Run.{seen, Fate, misfit, matched, passed, if-so, tested, inside, kept}
 use Rattle.meaning.specs.Check.{tests}
 use Rattle.meaning.specs.Figures.{Matches, m-text, m-any, m-label, Differs, Inside, in-node, in-other, Kept, k-none, k-tree, k-other, Same, same-bytes, other-bytes}
-use Rattle.meaning.specs.Figures.{Atomic, is-text, is-bool, is-label, is-name, Labelled, l-label, l-name, TestMatches, a-text, a-any, a-label, TestDiffers}
+use Rattle.meaning.specs.Figures.{Atomic, is-text, is-bool, is-label, is-name, Labelled, l-label, l-name, Childless, c-text, c-bool, TestMatches, a-text, a-any, a-label, TestDiffers}
 use Rattle.meaning.specs.Laws.Bools.{and-left, and-right, and-both, never}
 
 -- ---- a test and a tree
@@ -162,6 +162,34 @@ module _ (names : ℕ → Named) where
   atom-labelled (Ty.choice σ ρ) n τ e = never (cc)
   atom-labelled (Ty.star σ) n τ e = never (cc)
   atom-labelled (Ty.name x) n τ e = let p : names x .label ≡ n = cc in let q : names x .content ≡ τ = cc in rw (← p, ← q) l-name
+
+  -- text and bool are the atoms without children
+  pub childless-atom : {α : Ty} → Childless α → (atomOf names α ≡ Atom.text) ⊎ (atomOf names α ≡ Atom.bool)
+  unfolding atomOf
+  childless-atom c-text = inl refl
+  childless-atom c-bool = inr refl
+
+  pub text-childless : (α : Ty) → atomOf names α ≡ Atom.text → Childless α
+  unfolding atomOf
+  text-childless Ty.empty e = never (cc)
+  text-childless Ty.text e = c-text
+  text-childless Ty.bool e = c-bool
+  text-childless (Ty.label n τ) e = never (cc)
+  text-childless (Ty.seq σ ρ) e = never (cc)
+  text-childless (Ty.choice σ ρ) e = never (cc)
+  text-childless (Ty.star σ) e = never (cc)
+  text-childless (Ty.name x) e = never (cc)
+
+  pub bool-childless : (α : Ty) → atomOf names α ≡ Atom.bool → Childless α
+  unfolding atomOf
+  bool-childless Ty.empty e = never (cc)
+  bool-childless Ty.text e = c-text
+  bool-childless Ty.bool e = c-bool
+  bool-childless (Ty.label n τ) e = never (cc)
+  bool-childless (Ty.seq σ ρ) e = never (cc)
+  bool-childless (Ty.choice σ ρ) e = never (cc)
+  bool-childless (Ty.star σ) e = never (cc)
+  bool-childless (Ty.name x) e = never (cc)
 
   -- a type is no atom, or an atom
   atom-or : (α : Ty) → (atomOf names α ≡ Atom.no-atom) ⊎ Atomic α

@@ -22,6 +22,7 @@ use Rattle.meaning.specs.Run as run
 use Rattle.meaning.specs.Check.{Question, Judged, too-wide, holds, fails, Asking, Types, parts}
 use Rattle.meaning.specs.Check.{tests, picked, inside-type, rename-type, children-type, test-type, ask-all, query-type}
 use Rattle.meaning.specs.Check.{statement-type, typesAt, declaration, infer, typing, body, bodies, check-walk}
+use Rattle.meaning.specs.Check.{infer-by, typing-by, body-by, bodies-by, check-by}
 use Rattle.meaning.specs.Places.{is-content}
 use Rattle.meaning.specs.Shape.{procedure-ok, shapely}
 use Rattle.meaning.specs.Reply.{done, Loads, sound}
@@ -131,7 +132,7 @@ module _ (s : List ℕ) (shape : shapely s ≡ true) where
   tidy-picked run.Fate.passed α h = tt
 
   tidy-inside : (at : Place) (k : Atom) → KnownAtom k → Tidy Known (inside-type at k)
-  unfolding inside-type Safe
+  unfolding inside-type Safe Over
   tidy-inside at Atom.no-atom h = tt
   tidy-inside at Atom.text h = tt
   tidy-inside at Atom.bool h = tt
@@ -288,22 +289,22 @@ module _ (s : List ℕ) (shape : shapely s ≡ true) where
     )
 
   tidy-infer : (d : ℕ) (Γ : Types) (i : ℕ) → KnownAll Γ → Tidy Known (infer S d Γ i)
-  unfolding infer Safe
+  unfolding infer-by query-type Safe
   tidy-infer zero Γ i env = tt
   tidy-infer (suc d) Γ i env = tidy-query (infer S d) (tidy-infer d) Γ env i (queryAt S i)
 
   tidy-typing : (d : ℕ) (Γ : Types) (i : ℕ) (τ : Ty) → KnownAll Γ → Known τ → Tidy Known (typing S d Γ i τ)
-  unfolding typing Safe
+  unfolding typing-by Safe
   tidy-typing zero Γ i τ env k = tt
   tidy-typing (suc d) Γ i τ env k = tidy-statement (infer S d) (tidy-infer d) (typing S d) (tidy-typing d) Γ env i τ k (statementAt S i) refl
 
   tidy-body : (Γ : Types) (i r w : ℕ) → KnownAll Γ → Wanted S w → Tidy Known (body S Γ i (declared S r) (declared S w))
-  unfolding body Safe
+  unfolding body-by Safe
   tidy-body Γ i r w env h = tidy-then Known Known (typing S most-depth Γ i (declared S r)) _ (tidy-typing most-depth Γ i (declared S r) env (declared-over s shape r)) λ x a.
       (record { known = a; askable = of-row w h }, a)
 
   tidy-bodies : (n : ℕ) → n ≤ S .procedures → (w : Asking Ty) → Tidy Known w → Tidy Known (bodies S n w)
-  unfolding bodies
+  unfolding bodies-by
   tidy-bodies zero l w h = h
   tidy-bodies (suc n) l w h = tidy-bodies n (omega arith) _
       (tidy-then Known Known (body S (declaration S (suc n) .parameters) (S .procedureRow (suc n) .body) (declaration S (suc n) .input) (declaration S (suc n) .output)) _
@@ -315,7 +316,7 @@ module _ (s : List ℕ) (shape : shapely s ≡ true) where
   b-row = let r = roots (sheetOf s) (roots-pass s shape) in (r .b, or-left (is-content S (S .b)) (or-left _ (or-left _ (or-right (eqb (S .a) (S .b)) (eq-eqb (S .b) (S .b) refl)))))
 
   pub tidy-check : Safe (Judged (namesIn S)) Any Fine Known (check-walk S)
-  unfolding check-walk KnownAll
+  unfolding check-by KnownAll
   tidy-check = tidy-bodies (S .procedures) (omega arith) _ (tidy-body [] (S .main) (S .a) (S .b) tt b-row)
 
 -- ---- so each of them is judged, and a check's walk settles with every purse

@@ -37,6 +37,11 @@ use Rattle.meaning.specs.Check.{
   body,
   bodies,
   check-walk,
+  infer-by,
+  typing-by,
+  body-by,
+  bodies-by,
+  check-by,
 }
 use Rattle.meaning.specs.Figures.{
   Atomic,
@@ -62,6 +67,7 @@ use Rattle.meaning.specs.Figures.{
   h-if,
   h-same,
   h-children,
+  h-childless,
   h-pick,
   h-for,
   HasEach,
@@ -101,7 +107,19 @@ use Rattle.meaning.specs.Figures.{
   Passes,
   Accepts,
 }
-use Rattle.meaning.specs.Laws.Figures.{labelled-atom, atom-labelled, matches-atom, matches-tests, tests-matches, differs-tests, tests-differs, atom-fits}
+use Rattle.meaning.specs.Laws.Figures.{
+  labelled-atom,
+  atom-labelled,
+  childless-atom,
+  text-childless,
+  bool-childless,
+  matches-atom,
+  matches-tests,
+  tests-matches,
+  differs-tests,
+  tests-differs,
+  atom-fits,
+}
 use Rattle.meaning.specs.Laws.Walk.{Single, All, all-given, all-then, all-map}
 use Rattle.meaning.specs.Laws.Sure.{
   Spent,
@@ -185,8 +203,8 @@ module _ (S : Script) where
     inside-all : (i v : ℕ) → queryAt S i ≡ Query.children v → (k : Atom) → atomOf (namesIn S) (getD Γ v Ty.empty) ≡ k → All J (Has S Γ i) (inside-type (of-query i) k)
     unfolding inside-type All
     inside-all i v e Atom.no-atom h = tt
-    inside-all i v e Atom.text h = tt
-    inside-all i v e Atom.bool h = tt
+    inside-all i v e Atom.text h = h-childless e (text-childless (namesIn S) _ h)
+    inside-all i v e Atom.bool h = h-childless e (bool-childless (namesIn S) _ h)
     inside-all i v e (Atom.label n τ) h = h-children e (atom-labelled (namesIn S) _ n τ h)
 
     query-all : (i : ℕ) (c : Query) → queryAt S i ≡ c → All J (Has S Γ i) (query-type (namesIn S) c i go Γ)
@@ -212,7 +230,7 @@ module _ (S : Script) where
     arguments-all (q ∷ l) = all-then J _ _ (go Γ q) _ (ih Γ q) λ x a. all-then J _ _ (arguments (go Γ) l) _ (arguments-all l) λ y b. has-more a b
 
   infer-all : (d : ℕ) (Γ : Types) (i : ℕ) → All J (Has S Γ i) (infer S d Γ i)
-  unfolding infer All
+  unfolding infer-by query-type All
   infer-all zero Γ i = tt
   infer-all (suc d) Γ i = query-all (infer S d) (infer-all d) Γ i (queryAt S i) refl
 
@@ -271,7 +289,7 @@ module _ (S : Script) where
         (declaration S c .output) λ k. y-call e (met j) a k refl
 
   typing-all : (d : ℕ) (Γ : Types) (i : ℕ) (τ : Ty) → All J (Typed S Γ i τ) (typing S d Γ i τ)
-  unfolding typing All
+  unfolding typing-by All
   typing-all zero Γ i τ = tt
   typing-all (suc d) Γ i τ = statement-all (typing S d) (typing-all d) (infer S d) (infer-all d) Γ i τ (statementAt S i) refl
 
@@ -289,7 +307,7 @@ module _ (S : Script) where
   Computes Γ i τ σ x = Typed S Γ i τ x × Within (namesIn S) x σ
 
   body-all : (Γ : Types) (i : ℕ) (τ σ : Ty) → All J (Computes Γ i τ σ) (body S Γ i τ σ)
-  unfolding body All
+  unfolding body-by All
   body-all Γ i τ σ = all-then J _ _ (typing S most-depth Γ i τ) _ (typing-all most-depth Γ i τ) λ x a. λ j. (a, met j)
 
   abbrev body-of : ℕ → Asking Ty
@@ -309,7 +327,7 @@ module _ (S : Script) where
   ]
 
   bodies-all : (n : ℕ) (P : Ty → Type 0) (w : Asking Ty) → All J P w → All J (λ σ. Kept n × P σ) (bodies S n w)
-  unfolding bodies
+  unfolding bodies-by
   bodies-all zero P w h = all-map J P _ w h λ σ a. ((λ c p q. absurd (omega arith)), a)
   bodies-all (suc n) P w h = all-map J (λ σ. Kept n × (Keeps (suc n) × P σ)) _ _ (bodies-all n (λ σ. Keeps (suc n) × P σ) _ after) λ σ a. (kept-more n (a .0) (a .1 .0), a .1 .1)
     where
@@ -318,7 +336,7 @@ module _ (S : Script) where
           λ x a. all-map J P _ w h λ σ b. (record { output = x; typed = a .0; lies = a .1 }, b)
 
   check-all : All J (λ σ. Kept (S .procedures) × Computes [] (S .main) (declared S (S .a)) (declared S (S .b)) σ) (check-walk S)
-  unfolding check-walk
+  unfolding check-by
   check-all = bodies-all (S .procedures) _ _ (body-all [] (S .main) (declared S (S .a)) (declared S (S .b)))
 
   -- what the check accepts the rules accept, with the type that it gives for main
@@ -352,7 +370,7 @@ module _ (S : Script) where
   picks-sure l (p-star a) = sure-tick (sure-then _ (picks-sure l a) (sure-tick (sure-ret refl)))
 
   infer-row : (Γ : Types) (i : ℕ) (c : Query) {σ : Ty} → queryAt S i ≡ c → Sure Met σ (λ d. query-type (namesIn S) c i (infer S d) Γ) → Sure Met σ (λ d. infer S d Γ i)
-  unfolding infer
+  unfolding infer-by query-type
   infer-row Γ i c e s = sure-row _ refl (λ d. rw e refl) s
 
   mutual
@@ -369,6 +387,7 @@ module _ (S : Script) where
     has-sure (h-if e a h b c) = infer-row _ _ _ e (sure-then _ (has-sure a) (sure-ask _ h (sure-then _ (has-sure b) (sure-then _ (has-sure c) (sure-tick (sure-ret refl))))))
     has-sure (h-same e a b h k) = infer-row _ _ _ e (sure-then _ (has-sure a) (sure-then _ (has-sure b) (sure-ask _ h (sure-ask _ k (sure-tick (sure-ret refl))))))
     has-sure (h-children e h) = infer-row _ _ _ e (rw (labelled-atom (namesIn S) h) (sure-ret refl))
+    has-sure (h-childless e h) = infer-row _ _ _ e (elim (childless-atom (namesIn S) h) [ inl t ↦ rw t (sure-tick (sure-ret refl)) | inr t ↦ rw t (sure-tick (sure-ret refl)) ])
     has-sure (h-pick {l = l} e a b) = infer-row _ _ _ e (sure-then _ (has-sure a) (picks-sure l b))
     has-sure (h-for e a b) = infer-row _ _ _ e (sure-then _ (has-sure a) (each-sure b))
 
@@ -391,7 +410,7 @@ module _ (S : Script) where
 
   typing-row : (Γ : Types) (i : ℕ) (τ : Ty) (c : Statement) {σ : Ty} → statementAt S i ≡ c → Sure Met σ (λ d. statement-type (namesIn S) (declaration S) c i (typing S d) (infer S d) Γ τ)
       → Sure Met σ (λ d. typing S d Γ i τ)
-  unfolding typing
+  unfolding typing-by
   typing-row Γ i τ c e s = sure-row _ refl (λ d. rw e refl) s
 
   mutual
@@ -451,14 +470,14 @@ module _ (S : Script) where
   Checks σ u w = Costs Met (Spent (Unit {0}) (Unit {0})) σ u w
 
   body-costs : (Γ : Types) (i : ℕ) (τ σ : Ty) (p : Passes S Γ i τ σ) → (u : ℕ) × Checks (p .output) u (body S Γ i τ σ)
-  unfolding body Costs
+  unfolding body-by Costs
   body-costs Γ i τ σ p = let s = typed-sure (p .typed) in (
     s .units + 0,
     costs-then Met _ (p .output) (p .output) (s .units) 0 (typing S most-depth Γ i τ) _ (sure-costs (Unit {0}) s most-depth) (p .lies, (refl, refl)),
   )
 
   bodies-costs : (n : ℕ) → Kept n → (w : Asking Ty) (σ : Ty) (u : ℕ) → Checks σ u w → (t : ℕ) × Checks σ t (bodies S n w)
-  unfolding bodies
+  unfolding bodies-by
   bodies-costs zero k w σ u c = (u, c)
   bodies-costs (suc n) k w σ u c =
       let p = k (suc n) (omega arith) (omega arith) in
@@ -466,7 +485,7 @@ module _ (S : Script) where
       bodies-costs n (λ e l q. k e l (omega arith)) _ σ (b .0 + u) (costs-then Met _ (p .output) σ (b .0) u (body-of (suc n)) (λ x. w) (b .1) c)
 
   check-costs : (a : Accepts S) → (u : ℕ) × Checks (a .main .output) u (check-walk S)
-  unfolding check-walk
+  unfolding check-by
   check-costs a = let b = body-costs _ _ _ _ (a .main) in bodies-costs (S .procedures) (a .procedures) _ (a .main .output) (b .0) (b .1)
 
   -- what the rules accept, the check accepts with main's type, unless Depth or Wide ends it, or Fuel, the purse being less than `units`

@@ -263,15 +263,13 @@ impl Maker<'_> {
         if !scope.is_empty() && self.dice.once_in(2) {
             let index = self.dice.below(scope.len());
             let variable = scope[index].clone();
-            let content = label_of(&self.names, &variable.ty).map(|(_, content)| content.clone());
-            return match content {
-                Some(content) if variable.is_tree && self.dice.once_in(2) => {
-                    (Qu::Children(index as u16), content)
-                }
-                None if variable.is_tree && self.dice.once_in(10) => {
-                    (Qu::Children(index as u16), Ty::Empty)
-                }
-                _ => (Qu::Variable(index as u16), variable.ty),
+            return if variable.is_tree && self.dice.once_in(2) {
+                (
+                    Qu::Children(index as u16),
+                    inside(&self.names, &variable.ty),
+                )
+            } else {
+                (Qu::Variable(index as u16), variable.ty)
             };
         }
         match self.dice.below(4) {
@@ -343,6 +341,9 @@ impl Maker<'_> {
     }
 
     fn for_query(&mut self, scope: &mut Scope, size: usize) -> (Qu, Ty) {
+        if self.dice.once_in(4) {
+            return self.for_children(scope, size);
+        }
         let (each, ty) = self.query(Want::Any, scope, size / 2);
         let mut atoms = Vec::new();
         collect_atoms(&ty, &mut atoms);
@@ -352,6 +353,34 @@ impl Maker<'_> {
         });
         (each.each(body), replaced(&ty, &|_| body_ty.clone()))
     }
+
+    /// The children of each tree, of a variable of mixed content if there is one.
+    fn for_children(&mut self, scope: &mut Scope, size: usize) -> (Qu, Ty) {
+        let mixed = |it: &Variable| is_mixed(&self.names, &it.ty);
+        let (each, ty) = match scope.iter().rposition(mixed) {
+            Some(index) => (Qu::Variable(index as u16), scope[index].ty.clone()),
+            None => self.query(Want::Any, scope, size / 2),
+        };
+        let children = Qu::Children(scope.len() as u16);
+        let names = &self.names;
+        (
+            each.each(children),
+            replaced(&ty, &|atom| inside(names, atom)),
+        )
+    }
+}
+
+/// The type of an atom's children: a label's content, nothing in a text or bool.
+fn inside(names: &[Ty], atom: &Ty) -> Ty {
+    label_of(names, atom).map_or(Ty::Empty, |(_, content)| content.clone())
+}
+
+/// True if labels stand beside texts or bools.
+fn is_mixed(names: &[Ty], ty: &Ty) -> bool {
+    let mut atoms = Vec::new();
+    collect_atoms(ty, &mut atoms);
+    let labelled = |atom: &Ty| label_of(names, atom).is_some();
+    atoms.iter().any(labelled) && !atoms.iter().all(labelled)
 }
 
 /// The type, or another if it has grown too long to be carried along.

@@ -148,10 +148,10 @@ unfolding query-type tyForm
 returns-12 t c = let the-query-at = c .before .before .before .before .before .query-at in let a = c .before .before .before .before .before .before .before .before .before .before .before .before .before .args in let h = c .before .before .before .before .before .before .before .before .before .before .before .before .before .pre .1 in let r = h .ready in ask-as (a .s .now) (a .work .now) (a .used) (a .scope) (a .depth) (a .at) (c .before .before .before .before .before .before .before .before .before .before .if1 .left) (form-is (a .s .now) (a .at) (cellsOf (the-query-at .result)) (the-query-at .ensures .0) 10 (c .before .before .before .before .match2 .keys10)) _ (paid-left (c .before .before .before .before .before .before .before .rest .given .1) (c .before .before .before .before .before .before .before .before .before .take .ensures)) (c .before .before .same .ensures)
 
 same-length-10 : (t : ℕ) → lts.Need-same-length-10 (query-claims t) (query-at t) query-reads.Post
-same-length-10 t c = refl
+same-length-10 t c = c .before .before .inside .kept .1 .0
 
 returns-13 : (t : ℕ) → lts.Need-returns-13 (query-claims t) (query-at t) query-reads.Post
-returns-13 t c = let the-query-at = c .before .before .before .before .query-at in let a = c .before .before .before .before .before .before .before .before .before .before .before .before .args in let h = c .before .before .before .before .before .before .before .before .before .before .before .before .pre .1 in let r = h .ready in ask-as (a .s .now) (a .work .now) (a .used) (a .scope) (a .depth) (a .at) (c .before .before .before .before .before .before .before .before .before .if1 .left) (form-is (a .s .now) (a .at) (cellsOf (the-query-at .result)) (the-query-at .ensures .0) 11 (c .before .before .before .match2 .keys11)) _ (paid-left (c .before .before .before .before .before .before .rest .given .1) (c .before .before .before .before .before .before .before .before .take .ensures)) (inside-finds (a .s .now) _ (a .at) _ r (c .before .value2 .ensures) (c .inside .ensures))
+returns-13 t c = let the-query-at = c .before .before .before .before .before .before .query-at in let a = c .before .before .before .before .before .before .before .before .before .before .before .before .before .before .args in let h = c .before .before .before .before .before .before .before .before .before .before .before .before .before .before .pre .1 in let r = h .ready in ask-as (a .s .now) (a .work .now) (a .used) (a .scope) (a .depth) (a .at) (c .before .before .before .before .before .before .before .before .before .before .before .if1 .left) (form-is (a .s .now) (a .at) (cellsOf (the-query-at .result)) (the-query-at .ensures .0) 11 (c .before .before .before .before .before .match2 .keys11)) _ (paid-left (c .before .before .before .before .before .before .before .before .rest .given .1) (c .before .before .before .before .before .before .before .before .before .before .take .ensures)) (inside-finds (a .s .now) _ (a .at) _ r (c .before .before .before .value2 .ensures) (c .before .before .inside .ensures))
 
 same-length-11 : (t : ℕ) → lts.Need-same-length-11 (query-claims t) (query-at t) query-reads.Post
 same-length-11 t c = c .before .before .pick .kept .1 .0

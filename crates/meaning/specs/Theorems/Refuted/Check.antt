@@ -17,7 +17,7 @@ use Rattle.meaning.specs.Reply.{fuel, wide, mismatch, outside, scratch, 
 use Rattle.meaning.specs.Listing.{lent-work}
 use Rattle.meaning.specs.Theorems.Single.{one-check}
 use Rattle.meaning.specs.Theorems.Worked.{worked, ok7-back}
-use Rattle.meaning.specs.Theorems.Worked.Sheets.{tr, row, pr, sheet, s1, s7, s10, doubling}
+use Rattle.meaning.specs.Theorems.Worked.Sheets.{tr, row, pr, sheet, typed, s1, s7, s10, doubling}
 use Rattle.meaning.specs.Theorems.Worked.Slips.{slips}
 use Rattle.meaning.specs.Theorems.Worked.Stated.{tables, shape, ties, checks, a, b, c, leaf, tip, Checks, Walks, loads, answers-by, answers, in-itself}
 use Rattle.meaning.specs.Theorems.Refuted.Calls.{Check, MeetsCheck, statementIn, queryIn, mainOf, typeA, typeB, Afoot, codes, two-answers, two-numbers, differ, two-bytes, work-rows}
@@ -52,6 +52,14 @@ WideAsMismatch f = (s work : List ℕ) (at : Place) (u : ℕ) → Checked s work
 -- a declared output that does not hold the found type is given as Mismatch
 abbrev pub OutsideAsMismatch : Check → Type 0
 OutsideAsMismatch f = (s work : List ℕ) (u : ℕ) → Checked s work (refused (outside of-output)) u → f s work .answer ≡ refused (mismatch of-output)
+
+-- main inserts, into (), the children of each tree of a text
+abbrev Childs : List ℕ → ℕ → Type 0
+Childs s i = (q p o n : ℕ) × (mainOf s ≡ Statement.insert q) × (queryIn s q ≡ Query.for p i) × (queryIn s p ≡ Query.text o n) × (queryIn s i ≡ Query.children 0) × (typeA s ≡ Ty.empty)
+
+-- they are given as Mismatch, as by the rule before
+abbrev pub ChildrenMismatch : Check → Type 0
+ChildrenMismatch f = (s work : List ℕ) (i : ℕ) → Loads s done → Afoot s work → 7 ≤ sheetOf s .checkFuel → scriptOf s .procedures ≡ 0 → Childs s i → f s work .answer ≡ refused (mismatch (of-query i))
 
 -- ---- order
 
@@ -88,6 +96,10 @@ OneCheckNumber f = (n : ℕ) × ((s work : List ℕ) → f s work .answer ≡ do
 -- a written row is unpaid: a main that deletes takes one unit, and there is no more
 abbrev pub WritesFree : Check → Type 0
 WritesFree f = (s work : List ℕ) → mainOf s ≡ Statement.delete → scriptOf s .procedures ≡ 0 → f s work .answer ≡ done → f s work .checkUnits ≡ 1
+
+-- the () of a text's children is not written, and unpaid
+abbrev pub ChildrenFree : Check → Type 0
+ChildrenFree f = (s work : List ℕ) (i : ℕ) → scriptOf s .procedures ≡ 0 → Childs s i → f s work .answer ≡ done → f s work .checkUnits ≡ 6
 
 -- the fuels exchanged: Scratch by the run's fuel
 abbrev pub ScratchByRunFuel : Check → Type 0
@@ -183,6 +195,19 @@ check-delete : Checks s10 done 2
 unfolding s10 shape ties checks
 check-delete = answers (loads s10 refl refl refl) 4094 (in-itself refl refl, tt) refl refl refl
 
+-- from () to (): insert the children of a text
+unfoldable pub text-children : List ℕ
+unfolding typed
+text-children = typed [] (tr 1 0 0 ∷ []) (row 4 0 0 0 ∷ row 11 0 0 0 ∷ row 13 1 2 0 ∷ []) (row 4 3 0 0 ∷ []) 1
+
+ok-children : Loads text-children done
+unfolding text-children shape ties
+ok-children = loads text-children refl refl refl
+
+check-children : Checks text-children done 7
+unfolding text-children checks
+check-children = answers ok-children 4089 (in-itself refl refl, (in-itself refl refl, tt)) refl refl refl
+
 -- skip on (), with no check fuel
 ok-idle : Loads (idle 0 4096) done
 unfolding idle shape ties
@@ -268,6 +293,17 @@ module _ (f : Check) (meets : MeetsCheck f) where
   pub not-writes-free : WritesFree f → ⊥
   unfolding s10 tables
   not-writes-free w = let e = said (check-delete lent-work (work-rows 4096 refl)) in two-numbers (e .1) (w s10 lent-work refl refl (e .0)) refl
+
+  -- children of a text are no Mismatch
+  pub not-children-mismatch : ChildrenMismatch f → ⊥
+  unfolding text-children checks codes
+  not-children-mismatch w = two-answers (said (check-children lent-work (work-rows 4096 refl)) .0)
+      (w text-children lent-work 2 ok-children (work-rows 4096 refl) (leb-true 7 4096 refl) refl (3, 1, 0, 0, refl, refl, refl, refl, refl)) refl
+
+  -- and their () is paid for
+  pub not-children-free : ChildrenFree f → ⊥
+  unfolding text-children checks
+  not-children-free w = let e = said (check-children lent-work (work-rows 4096 refl)) in two-numbers (e .1) (w text-children lent-work 2 refl (3, 1, 0, 0, refl, refl, refl, refl, refl) (e .0)) refl
 
   -- without check fuel no working rows are needed, and there is no Scratch
   pub not-scratch-by-run-fuel : ScratchByRunFuel f → ⊥

@@ -47,6 +47,9 @@ use Rattle.meaning.specs.Figures.{
   is-bool,
   is-label,
   is-name,
+  Childless,
+  c-text,
+  c-bool,
   Picks,
   p-empty,
   p-kept,
@@ -65,6 +68,7 @@ use Rattle.meaning.specs.Figures.{
   h-if,
   h-same,
   h-children,
+  h-childless,
   h-pick,
   h-for,
   HasEach,
@@ -244,6 +248,12 @@ module _ (names : ℕ → Named) where
   unfolding inside seen
   inside-of τ o n σ e = let x = labelled τ o n σ e in rw (x .1) (x .2)
 
+  -- a text or bool has nothing inside
+  inside-none : {τ : Ty} {f : Forest} → Childless τ → Of names τ f → Of names Ty.empty (inside (seen f))
+  unfolding inside seen
+  inside-none c-text of-text = of-empty
+  inside-none c-bool of-bool = of-empty
+
   -- a test of the focus comes out as it does on the type's atom
   agrees : (τ : Ty) {f : Forest} → Of names τ f → (t : Test) → (tests t (atomOf names τ) ≡ misfit) ⊎ (tested t (seen f) ≡ tests t (atomOf names τ))
   unfolding atomOf
@@ -370,6 +380,7 @@ module _ (S : Script) (byte : ℕ → ℕ) where
         good-then (Is τ) _ (go γ p) _ (ih Γ γ p τ a env) λ x o. good-then (Is σ) _ (go γ q) _ (ih Γ γ q σ b env) λ y u. good-same (namesIn S) _ (v x o) (w y u))
     good-query i (h-children {v = v} {n = n} {τ = τ} e a) = row _ i _ e (
         inside-of (namesIn S) (getD Γ v Ty.empty) (fit-at (namesIn S) env v) n τ (labelled-atom (namesIn S) a))
+    good-query i (h-childless {v = v} e a) = row _ i _ e (inside-none (namesIn S) a (fit-at (namesIn S) env v))
     good-query i (h-pick {p = p} {l = l} {τ = τ} e a k) = row _ i _ e (good-then (Is τ) _ (go γ p) _ (ih Γ γ p τ a env) λ x o. good-copy _ (count (kept l x)) _ (picked-of (namesIn S) l k o))
     good-query i (h-for {p = p} {q = q} {τ = τ} e a h) = row _ i _ e (good-then (Is τ) _ (go γ p) _ (ih Γ γ p τ a env) λ x o. good-for q h o)
 

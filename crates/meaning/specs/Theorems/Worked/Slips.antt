@@ -22,7 +22,23 @@ use Rattle.meaning.specs.Laws.Bools.{or-cases, not-both}
 use Rattle.meaning.specs.Theorems.Worked.Sheets.{tr, row, kinds, small, typed, doubling, wrong-argument}
 use Rattle.meaning.specs.Theorems.Worked.Ties.{untied}
 use Rattle.meaning.specs.Theorems.Worked.Stated.{tables, shape, ties, runs, checks, unasked, a, b, c, d, leaf, tip, trees, Does, Checks, one-name, loads, does, answers-by, answers, in-itself}
-use Rattle.meaning.specs.Theorems.Worked.Trials.{Each, Sticks, stuck-trials, all-stick, Mismatches, mismatch-trials, all-mismatch, Ties, tie-trials, all-tie, name-trials, names-tie}
+use Rattle.meaning.specs.Theorems.Worked.Trials.{
+  Each,
+  Sticks,
+  stuck-trials,
+  all-stick,
+  Mismatches,
+  mismatch-trials,
+  all-mismatch,
+  Passes,
+  child-trials,
+  all-childless,
+  Ties,
+  tie-trials,
+  all-tie,
+  name-trials,
+  names-tie,
+}
 
 -- ---- the statements
 
@@ -116,6 +132,7 @@ pub record Slips : Type 0 where
   pub kinds : Kinds
   pub stuck : Each Sticks stuck-trials
   pub mismatched : Each Mismatches mismatch-trials
+  pub childless : Each Passes child-trials
   pub tied : Each Ties tie-trials
   pub named : Each Ties name-trials
   pub texts : Texts
@@ -319,6 +336,7 @@ slips = record {
   kinds = all-kinds;
   stuck = all-stick;
   mismatched = all-mismatch;
+  childless = all-childless;
   tied = all-tie;
   named = names-tie;
   texts = all-texts;

@@ -32,10 +32,11 @@ use Rattle.meaning.specs.Check.{
   query-type,
   statement-type,
   typesAt,
-  infer,
-  typing,
-  body,
-  bodies,
+  infer-by,
+  typing-by,
+  body-by,
+  bodies-by,
+  check-by,
   check-walk,
 }
 use Rattle.meaning.specs.Shape.{
@@ -114,7 +115,7 @@ runs = tt
 -- a check
 unfoldable pub checks : Unit {0}
 unfolding tables unasked Passing settle namesIn tyAt ty tyForm atomOf size parts tests picked test-type rename-type children-type inside-type ask-all query-type statement-type typesAt arguments
-    infer typing body bodies check-walk _>>=_ pay
+    infer-by typing-by body-by bodies-by check-by _>>=_ pay
 checks = tt
 
 -- a bundle

@@ -1,5 +1,5 @@
--- Small sheets, one for each way to be stuck, to be mismatched and to be tied that the twelve leave open: each refuses a slip in a definition. By computation; rows and units are those that the
--- independent second program gives.
+-- Small sheets, one for each way to be stuck, to be mismatched and to be tied that the twelve leave open, and for children of a text or bool: each refuses a slip in a definition. By computation;
+-- rows and units are those that the independent second program gives.
 use Prim.Native.Nat.{ℕ, _+_, _-_}
 use mathlib.Core.Path.{_≡_, refl}
 use mathlib.Core.Bool.{true, _&&_}
@@ -7,17 +7,17 @@ use mathlib.Core.List.{List, [], _∷_}
 use lib.Dec.{eqb, ltb}
 use Rattle.meaning.specs.Sheet.{sheetOf, scriptOf}
 use Rattle.meaning.specs.Forest.{only}
-use Rattle.meaning.specs.Types.{of-empty, of-label, of-name, namesIn, Fertile}
-use Rattle.meaning.specs.Walk.{Place, of-query, of-statement, stops}
+use Rattle.meaning.specs.Types.{Ty, of-empty, of-label, of-name, namesIn, Fertile}
+use Rattle.meaning.specs.Walk.{Place, of-query, of-statement, gives, stops}
 use Rattle.meaning.specs.Walk as walk
 use Rattle.meaning.specs.Check.{check-walk}
 use Rattle.meaning.specs.Shape.{shapely}
 use Rattle.meaning.specs.Places.{tied, NoneBarren}
-use Rattle.meaning.specs.Reply.{tie, mismatch, stuck, refused, Loads, is-tied, run-settled}
+use Rattle.meaning.specs.Reply.{tie, mismatch, stuck, done, refused, Loads, is-tied, run-settled}
 use Rattle.meaning.specs.Theorems.Worked.Sheets.{Row, tr, row, small, typed}
 use Rattle.meaning.specs.Theorems.Worked.Ties.{none-tied}
 use Rattle.meaning.specs.Theorems.Worked.Ties.{tie as tie-of}
-use Rattle.meaning.specs.Theorems.Worked.Stated.{shape, ties, runs, checks, b, leaf, Refuses, Checks, no-names, one-name, loads, refuses, Passing, check-settled, answers}
+use Rattle.meaning.specs.Theorems.Worked.Stated.{shape, ties, runs, checks, b, leaf, Refuses, Checks, no-names, one-name, loads, refuses, Passing, check-settled, answers, in-itself}
 
 -- a sheet, the place where it is refused and the units; or the two rows that are tied
 pub record Trial : Type 0 where
@@ -202,8 +202,6 @@ mismatch-trials =
     ∷ typing (tr 2 0 0 ∷ []) [] (row 6 1 0 0 ∷ []) 1 (of-statement 1) 1  -- rename on text
     ∷ typing (tr 3 0 0 ∷ []) [] (row 6 1 0 0 ∷ []) 1 (of-statement 1) 1  -- rename on bool
     ∷ typing (tr 1 0 0 ∷ tr 4 1 1 ∷ tr 7 2 0 ∷ []) [] (row 6 1 0 0 ∷ []) 1 (of-statement 1) 1  -- rename on a*
-    ∷ typing (tr 1 0 0 ∷ []) (row 4 0 0 0 ∷ row 11 0 0 0 ∷ row 13 1 2 0 ∷ []) (row 1 0 0 0 ∷ row 7 3 1 0 ∷ []) 2 (of-query 2) 6  -- children of a text variable
-    ∷ typing (tr 1 0 0 ∷ []) (row 5 0 0 0 ∷ row 11 0 0 0 ∷ row 13 1 2 0 ∷ []) (row 1 0 0 0 ∷ row 7 3 1 0 ∷ []) 2 (of-query 2) 6  -- children of a bool variable
     ∷ []
 
 pub all-mismatch : Each Mismatches mismatch-trials
@@ -220,18 +218,37 @@ all-mismatch = (
           mismatches refl refl refl tt refl refl,
           (
             mismatches refl refl refl tt refl refl,
-            (
-              mismatches refl refl refl tt refl refl,
-              (
-                mismatches refl refl refl tt refl refl,
-                (mismatches refl refl refl tt refl refl, (mismatches refl refl refl tt refl refl, (mismatches refl refl refl tt refl refl, tt))),
-              ),
-            ),
+            (mismatches refl refl refl tt refl refl, (mismatches refl refl refl tt refl refl, (mismatches refl refl refl tt refl refl, tt))),
           ),
         ),
       ),
     ),
   ),
+)
+
+-- ---- checks that are done: children of a text or bool variable are (), and a row is written
+
+pub record Passes (t : Trial) : Type 0 where
+  pub reply : Checks (t .sheet) done (t .units)
+
+passes : (t : Trial) → shapely (t .sheet) ≡ true → scriptOf (t .sheet) .names ≡ 0 → none-tied (scriptOf (t .sheet)) (λ x y. true) ≡ true
+    → Passing (namesIn (scriptOf (t .sheet))) (check-walk (scriptOf (t .sheet)))
+    → check-settled (t .sheet) ≡ record { verdict = gives Ty.empty; left = 4096 - t .units } → t .units + (4096 - t .units) ≡ sheetOf (t .sheet) .checkFuel → Passes t
+passes t s n u h e p = record { reply = answers (loads (t .sheet) s n u) (4096 - t .units) h e refl p }
+
+-- insert the children of each tree that a query gives
+abbrev child : Row → Trial
+child first = typing (tr 1 0 0 ∷ []) (first ∷ row 11 0 0 0 ∷ row 13 1 2 0 ∷ []) (row 4 3 0 0 ∷ []) 1 (of-query 2) 7
+
+-- a text, a bool
+abbrev pub child-trials : List Trial
+child-trials = child (row 4 0 0 0) ∷ child (row 5 0 0 0) ∷ []
+
+pub all-childless : Each Passes child-trials
+unfolding typed shape ties checks
+all-childless = (
+  passes (child (row 4 0 0 0)) refl refl refl (in-itself refl refl, (in-itself refl refl, tt)) refl refl,
+  (passes (child (row 5 0 0 0)) refl refl refl (in-itself refl refl, (in-itself refl refl, tt)) refl refl, tt),
 )
 
 -- ---- types that are tied
