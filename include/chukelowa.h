@@ -32,7 +32,8 @@ enum chukelowa_number {
     CHUKELOWA_WIDE = 7,          /* a type asked about has more than 512 rows; a, b: the row that asks */
     CHUKELOWA_MISMATCH = 8,      /* a rule of the check is unmet; a, b: the row that asks */
     CHUKELOWA_NOT_INCLUDED = 9,  /* a call, or a declared output, does not lie in its type; a, b: the call's row, or 0, 0 */
-    CHUKELOWA_UNFIT = 10,        /* the forest is not of the type */
+    CHUKELOWA_UNFIT = 10,        /* the forest is not of the type; a: the forest row of the first tree whose head cannot stand
+                                    where it is, or whose content ends too soon; 0 if the forest itself does */
     CHUKELOWA_STUCK = 11,        /* a run cannot go on; a, b: the row */
     CHUKELOWA_SCRATCH = 12,      /* too few working rows were lent */
     CHUKELOWA_ROOM = 13          /* too little was lent for the result */

@@ -6,9 +6,10 @@ use second::answers::Judged;
 use second::bundles;
 use second::cases::{Case, Cases};
 
-/// Compares so many cases of a seed: the reader's answer, the check's and the run's, and fit's to each type row, to row 0 and to the row past the last.
+/// Compares so many cases of a seed, half of them one fault away from fitting: the reader's answer, the check's and the run's, and
+/// fit's to each type row, to row 0 and to the row past the last.
 pub fn agree(seed: u64, count: usize) {
-    let cases = Cases::new(seed);
+    let cases = Cases::half_unfit(seed);
     let (mut answers, mut different) = (0, 0);
     for number in 0..count {
         let case = cases.case(number);

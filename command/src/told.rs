@@ -47,7 +47,7 @@ impl Asked<'_> {
             (7 | 9, 0, _) => self.output(),
             (7..=9, row, 1) => self.query_rule(row),
             (7..=9, row, _) => self.statement_rule(row),
-            (10, ..) => self.unfit(),
+            (10, tree, _) => self.unfit(tree),
             (11, row, 1) => self.stuck_query(row),
             (11, row, _) => self.stuck_statement(row),
             (12, ..) => self.scratch(),
@@ -223,20 +223,20 @@ impl Asked<'_> {
         self.unmet(Table::Statements, row, &Rule { of: &of, wants: &wants, advice: refusals::ALL[8].what_to_do }, part)
     }
 
-    fn unfit(&self) -> Message {
-        let Work { sheet, places, .. } = self.work;
+    fn unfit(&self, tree: u16) -> Message {
+        let Work { sheet, names, places, .. } = self.work;
         let asked = match self.question {
             Question::Fit { type_row } => type_row,
             _ => sheet.a,
         };
         let what = self.type_words(asked);
-        let fault = unfit::fault(self.work, asked);
+        let fault = unfit::fault(sheet, names, asked, tree);
         let of_type = self.whole(Table::Types, fault.type_row, "the type that it is to have");
         let Some(forest) = places.section("forest") else {
             let text = format!("no file has a description (`forest`), and the empty one is not of {what}");
             return advised(10, text, "name the file that has the description too", of_type);
         };
-        let tree = match fault.tree {
+        let tree = match tree {
             0 => vec![Mark::new(start_of(forest), fault.why)],
             tree => self.sign(Table::Forest, tree, fault.why),
         };

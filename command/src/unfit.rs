@@ -1,54 +1,88 @@
-//! Which tree of a description is at fault, and what is wanted there. A type that is free of ties says of each tree which of
-//! its places it takes, from the left; the proved fit is asked about each tree's content, so that the way down is right.
+//! What is wanted where a description is unfit. The proved fit names the place: the first tree whose head cannot stand there, or
+//! the one whose content ends too soon, 0 at the top. In a type that is free of ties the head of each tree before it says which
+//! place that tree takes.
 
-use crate::calls;
-use crate::inputs::Work;
-use notation::bundles;
 use notation::tables::Sheet;
 use notation::Names;
 
 pub struct Fault {
-    /// The forest row concerned; 0 is the whole description.
-    pub tree: u16,
     /// The type row that says what may stand there: a label's, or the one asked about.
     pub type_row: u16,
     pub why: String,
 }
 
-pub fn fault(work: &Work, type_row: u16) -> Fault {
-    let Work { sheet, names, .. } = work;
-    let (mut parent, mut first) = (0, sheet.root);
-    let (mut type_row, mut model) = (type_row, type_row);
-    'deeper: loop {
-        let mut left = vec![model];
-        let mut last = parent;
-        for (number, row) in trees(sheet, first) {
-            let Some((atom, rest)) = taken(sheet, &left, row) else {
-                return Fault { tree: number, type_row, why: format!("here, {}", wanted(sheet, names, &left)) };
-            };
-            (left, last) = (rest, number);
-            let content = sheet.types[usize::from(atom) - 1][2];
-            if row[0] == 4 && !fits(sheet, row[2], content) {
-                (parent, first) = (number, row[2]);
-                (type_row, model) = (atom, content);
-                continue 'deeper;
-            }
+/// What is wrong at the forest row that Unfit carries, against the type row asked about.
+pub fn fault(sheet: &Sheet, names: &Names, asked: u16, tree: u16) -> Fault {
+    let mut place = Place { type_row: asked, left: vec![asked] };
+    for step in way(sheet, tree) {
+        match place.behind(sheet, step) {
+            Some(next) => place = next,
+            None => return place.fault(sheet, names, "here"),
         }
-        let place = if last == parent { "in this," } else { "behind this," };
-        return Fault { tree: last, type_row, why: format!("{place} {}", wanted(sheet, names, &left)) };
     }
+    // The tree itself can stand there, so it is the end of its content that cannot.
+    let first = if tree == 0 { sheet.root } else { sheet.forest[usize::from(tree) - 1][2] };
+    let mut number = first;
+    while let Some(next) = place.behind(sheet, Step::Over(number)) {
+        place = next;
+        number = sheet.forest[usize::from(number) - 1][3];
+    }
+    place.fault(sheet, names, if first == 0 { "in this" } else { "at the end of this" })
 }
 
-/// The trees of one level, each with its row.
-fn trees(sheet: &Sheet, first: u16) -> Vec<(u16, [u16; 4])> {
-    let mut trees = Vec::new();
-    let mut number = first;
-    while number != 0 {
-        let row = sheet.forest[usize::from(number) - 1];
-        trees.push((number, row));
-        number = row[3];
+/// What is met on the way to a tree.
+enum Step {
+    /// A tree to the left of it, or of one that it is in.
+    Over(u16),
+    /// A tree that it is in, or the tree itself.
+    Into(u16),
+}
+
+/// The steps from the first tree of all to this one; none to row 0. Every row has one user: the tree that it stands behind, or
+/// the one that it is the first child of.
+fn way(sheet: &Sheet, tree: u16) -> Vec<Step> {
+    let user = |number: u16| {
+        let uses = |&(_, row): &(u16, &[u16; 4])| row[3] == number || row[0] == 4 && row[2] == number;
+        (1..).zip(&sheet.forest).find(uses)
+    };
+    let mut way = Vec::new();
+    if tree == 0 {
+        return way;
     }
-    trees
+    way.push(Step::Into(tree));
+    let mut number = tree;
+    while let Some((before, row)) = user(number) {
+        way.push(if row[3] == number { Step::Over(before) } else { Step::Into(before) });
+        number = before;
+    }
+    way.reverse();
+    way
+}
+
+/// A place in a type.
+struct Place {
+    /// The row whose content it is in, or the one asked about.
+    type_row: u16,
+    /// The type rows that are left, one behind the other.
+    left: Vec<u16>,
+}
+
+impl Place {
+    /// The place after a step; none if the tree's head cannot stand here, or there is no tree.
+    fn behind(&self, sheet: &Sheet, step: Step) -> Option<Place> {
+        let (Step::Over(number) | Step::Into(number)) = step;
+        let tree = *sheet.forest.get(usize::from(number).checked_sub(1)?)?;
+        let (atom, left) = taken(sheet, &self.left, tree)?;
+        let inside = sheet.types[usize::from(atom) - 1][2];
+        Some(match step {
+            Step::Over(_) => Place { type_row: self.type_row, left },
+            Step::Into(_) => Place { type_row: atom, left: vec![inside] },
+        })
+    }
+
+    fn fault(&self, sheet: &Sheet, names: &Names, place: &str) -> Fault {
+        Fault { type_row: self.type_row, why: format!("{place}, {}", wanted(sheet, names, &self.left)) }
+    }
 }
 
 /// The atom that a tree takes of the type rows that are left, one behind the other, and what is left then.
@@ -145,22 +179,4 @@ pub fn head(sheet: &Sheet, names: &Names, row: u16) -> String {
         [3, ..] => "a bool".into(),
         [_, label, _] => format!("`{}`", names.label(label)),
     }
-}
-
-/// Whether the trees from a row on are of a type, by the proved fit.
-fn fits(sheet: &Sheet, first: u16, type_row: u16) -> bool {
-    let mut part = Sheet { forest: Vec::new(), root: 0, ..sheet.clone() };
-    part.root = copy_trees(sheet, first, &mut part.forest);
-    calls::write(&bundles::encode(&part)).is_ok_and(|bundle| calls::fit(&bundle, type_row).number == 0)
-}
-
-/// Copies the trees from a row on, those that follow first, and gives the first tree's new row.
-fn copy_trees(sheet: &Sheet, first: u16, rows: &mut Vec<[u16; 4]>) -> u16 {
-    let mut next = 0;
-    for (_, [kind, p, q, _]) in trees(sheet, first).into_iter().rev() {
-        let child = if kind == 4 { copy_trees(sheet, q, rows) } else { q };
-        rows.push([kind, p, child, next]);
-        next = rows.len() as u16;
-    }
-    next
 }

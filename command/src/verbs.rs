@@ -97,7 +97,7 @@ fn apply(line: &Line, form: Form) -> Result<(), Trouble> {
     let work = work(line, Spare::default())?;
     let (reply, rows) = applied(line, &work)?;
     let Reply { check_units, run_units, root, .. } = reply;
-    edited(line, form, &work, format!("check 0 {check_units}\nfit 0\nrun 0 {run_units} {root}\n"), rows)
+    edited(line, form, &work, format!("check 0 {check_units}\nfit 0 0\nrun 0 {run_units} {root}\n"), rows)
 }
 
 fn applied(line: &Line, work: &Work) -> Result<(Reply, Rows), Trouble> {

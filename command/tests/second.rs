@@ -4,8 +4,10 @@ mod common;
 
 use common::{chukelowa, folder, root, Said};
 use second::answers::{answers, apply_listing, RESULT_ROWS, WORKING_ROWS};
+use second::bundles;
+use second::cases::{self, Cases};
+use second::notation::{self, assemble_all, line_and_column, Source, Spare, Table};
 use second::tables::Sheet;
-use second::{bundles, cases, notation};
 use std::path::{Path, PathBuf};
 
 /// The most rows of a description.
@@ -71,6 +73,19 @@ fn compare_apply(file: &str, sheet: &Sheet, bundle: &[u8]) -> bool {
     true
 }
 
+/// Unfit is told, of this text, at the tree that the second program names: its label, or what it is; at the top, the word `forest`.
+fn assert_place(file: &str, text: &str, tree: u16) {
+    let source = Source { name: file, bytes: text.as_bytes() };
+    let places = assemble_all(&[source], Spare::default()).expect("a text").places;
+    let section = || places.section("forest");
+    // A text without trees has no such section: the type alone is shown.
+    let Some(place) = places.row(Table::Forest, tree).map(|it| it.sign).or_else(section) else { return };
+    let (line, column) = line_and_column(text.as_bytes(), place.start);
+    let said = chukelowa(&["apply", file], b"");
+    let told = said.err.lines().find(|line| line.trim_start().starts_with("-->")).expect("a place");
+    assert!(told.ends_with(&format!(":{line}:{column}")), "{file}: {told}, wanted {line}:{column}");
+}
+
 /// check, fit against A and B, and run, each by itself, against the second program's answers.
 fn compare_alone(file: &str, sheet: &Sheet, bundle: &[u8]) {
     let answers = answers(bundle, WORKING_ROWS, RESULT_ROWS);
@@ -126,6 +141,9 @@ fn compare_random(cases: &[PathBuf]) -> (usize, usize) {
                 assert_eq!(chukelowa(&["assemble"], &listed.out).out, bundle, "{file}");
                 read += 1;
                 done += usize::from(compare_apply(file, &sheet, &bundle));
+                if let Some(tree) = apply_listing(&bundle).trim_end().rsplit_once("\nfit 10 ") {
+                    assert_place(file, listed.text(), tree.1.parse().expect("a row"));
+                }
                 // The other verbs on some of them: the calls themselves are compared elsewhere.
                 if at % 8 == 0 {
                     compare_alone(file, &sheet, &bundle);
@@ -140,7 +158,7 @@ fn compare_random(cases: &[PathBuf]) -> (usize, usize) {
 fn random_bundles() {
     const COUNT: usize = 2_000;
     let folder = folder("random-bundles");
-    cases::write_cases(15, COUNT, &folder).expect("cases");
+    cases::write_cases(Cases::half_unfit(15), COUNT, &folder).expect("cases");
     let cases = files(&folder, ".bundle");
     let counts = std::thread::scope(|scope| {
         let workers: Vec<_> = cases.chunks(COUNT / 4).map(|part| scope.spawn(|| compare_random(part))).collect();

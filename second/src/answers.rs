@@ -8,6 +8,7 @@ use crate::refusals::Refusal;
 use crate::run::{run, Ran};
 use crate::tables::Sheet;
 use crate::types::{declared_types, Types};
+use crate::unfit::Reading;
 pub use notation::deep;
 use std::fmt::Write;
 
@@ -93,10 +94,12 @@ impl<'a> Judged<'a> {
     /// *fit* against each of the rows: 2 ("no such row: Shape") to 4, then 10.
     pub fn fits(&self, rows: impl Iterator<Item = u16>) -> Vec<Result<(), Refusal>> {
         let mut fit = Fit::new(&self.types, &self.forest);
+        let reading = Reading::new(self.sheet, &self.forest);
         rows.map(|row| {
             refuse_if(!self.types.declared().contains(&row), Refusal::Shape)?;
             self.sound()?;
-            refuse_if(!fit.is_of(row), Refusal::Unfit)
+            let fault = reading.fault(&mut fit, row);
+            fault.map_or(Ok(()), |tree| Err(Refusal::Unfit { tree }))
         })
         .collect()
     }
@@ -270,8 +273,8 @@ fn listing(bundle: &[u8]) -> String {
         return text;
     }
 
-    let (number, ..) = fields(&judged.fit(sheet.a));
-    line(&mut text, format_args!("fit {number}"));
+    let (number, tree, _) = fields(&judged.fit(sheet.a));
+    line(&mut text, format_args!("fit {number} {tree}"));
     if number != 0 {
         return text;
     }

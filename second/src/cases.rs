@@ -10,7 +10,7 @@ use crate::faults::{block_faults, edges, faults};
 use crate::forests::Forest;
 use crate::places;
 use crate::shape::FUEL;
-use crate::tables::Sheet;
+use crate::tables::{last_row, Sheet};
 use crate::types::Types;
 use std::collections::BTreeMap;
 use std::fmt;
@@ -55,6 +55,8 @@ impl Case {
 /// The cases of a seed.
 pub struct Cases {
     seed: u64,
+    /// Every other case has a forest one fault away from A.
+    half_unfit: bool,
     faults: Vec<Sheet>,
     edges: Vec<Sheet>,
     blocks: Vec<Vec<u8>>,
@@ -64,16 +66,44 @@ impl Cases {
     pub fn new(seed: u64) -> Cases {
         Cases {
             seed,
+            half_unfit: false,
             faults: faults().into_iter().map(|fault| fault.sheet).collect(),
             edges: edges(),
             blocks: block_faults(),
         }
     }
 
-    /// The case of this number, from 0: of ten one breaks a rule, one is at the edge of a rule or
-    /// breaks a block, one is special and the others are random.
+    /// The cases of a seed, and between them as many whose forest is one fault away from A, at every depth.
+    pub fn half_unfit(seed: u64) -> Cases {
+        Cases {
+            half_unfit: true,
+            ..Cases::new(seed)
+        }
+    }
+
+    /// The case of this number, from 0.
     pub fn case(&self, number: usize) -> Case {
-        let mut dice = Dice::new(self.seed.wrapping_mul(0x1_0000_0001) ^ number as u64);
+        match (self.half_unfit, number % 2) {
+            (false, _) => self.usual(number),
+            (true, 0) => self.usual(number / 2),
+            (true, _) => varied(&mut self.dice(number), |dice| {
+                let sizes = [3, 6, 10, 16];
+                let size = *dice.one_of(&sizes);
+                let mut sheet = random::unfit::script(dice, size).sheet();
+                reorder(dice, &mut sheet);
+                sheet
+            }),
+        }
+    }
+
+    fn dice(&self, number: usize) -> Dice {
+        Dice::new(self.seed.wrapping_mul(0x1_0000_0001) ^ number as u64)
+    }
+
+    /// Of ten one breaks a rule, one is at the edge of a rule or breaks a block, one is special and
+    /// the others are random.
+    fn usual(&self, number: usize) -> Case {
+        let mut dice = self.dice(number);
         let turn = number / 10;
         match number % 10 {
             7 => Case::of(&self.faults[turn % self.faults.len()]),
@@ -82,19 +112,42 @@ impl Cases {
                 bundle: self.blocks[turn / 2 % self.blocks.len()].clone(),
                 lent: None,
             },
-            9 => varied(&mut dice, special::script),
+            9 => varied(&mut dice, |dice| special::script(dice).sheet()),
             _ => varied(&mut dice, |dice| {
                 let sizes = [3, 6, 10, 16, 30, 80];
                 let size = *dice.one_of(&sizes);
-                random::script(dice, size)
+                random::script(dice, size).sheet()
             }),
         }
     }
 }
 
+/// The same forest with its rows in another order, each still behind those that it refers to.
+fn reorder(dice: &mut Dice, sheet: &mut Sheet) {
+    let old = std::mem::take(&mut sheet.forest);
+    let mut numbers: Vec<Option<u16>> = vec![None; old.len() + 1];
+    numbers[0] = Some(0);
+    while sheet.forest.len() < old.len() {
+        let row = |number: usize| moved(old[number - 1], &numbers);
+        let free = (1..=old.len()).filter(|&number| numbers[number].is_none());
+        let ready: Vec<_> = free.filter_map(|it| Some((it, row(it)?))).collect();
+        let &(number, row) = dice.one_of(&ready);
+        sheet.forest.push(row);
+        numbers[number] = Some(last_row(&sheet.forest));
+    }
+    sheet.root = numbers[usize::from(sheet.root)].expect("all rows are moved");
+}
+
+/// A forest row that refers to the new numbers, if all that it refers to have one.
+fn moved([kind, p, q, next]: [u16; 4], numbers: &[Option<u16>]) -> Option<[u16; 4]> {
+    let new = |number: u16| numbers[usize::from(number)];
+    let q = if kind == 4 { new(q)? } else { q };
+    Some([kind, p, q, new(next)?])
+}
+
 /// A script's case with its fuel, or the rows lent, as needed or one less.
-fn varied(dice: &mut Dice, make: fn(&mut Dice) -> crate::scripts::Script) -> Case {
-    let mut sheet = make(dice).sheet();
+fn varied(dice: &mut Dice, make: fn(&mut Dice) -> Sheet) -> Case {
+    let mut sheet = make(dice);
     let judged = Judged::new(&sheet);
     let lent = Lent::new(WORKING_ROWS, usize::MAX);
     let (check_units, run) = (judged.check(lent).units, judged.run(lent));
@@ -182,12 +235,11 @@ impl fmt::Display for Histogram {
 }
 
 /// Writes so many cases, `NNN.bundle` and, where other rows are lent, `NNN.args`.
-pub fn write_cases(seed: u64, count: usize, directory: &Path) -> Result<Histogram, String> {
+pub fn write_cases(cases: Cases, count: usize, directory: &Path) -> Result<Histogram, String> {
     let directory = directory.to_path_buf();
     deep(move || {
         let told = |error: std::io::Error| format!("{}: {error}", directory.display());
         std::fs::create_dir_all(&directory).map_err(told)?;
-        let cases = Cases::new(seed);
         let mut histogram = Histogram::default();
         for number in 0..count {
             let case = cases.case(number);

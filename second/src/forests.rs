@@ -137,3 +137,28 @@ impl Forest {
         })
     }
 }
+
+/// One level of a forest that is read from the left: some trees are over, and the next may have been begun.
+pub struct Level<'a> {
+    trees: &'a [Tree],
+    pub over: usize,
+}
+
+impl<'a> Level<'a> {
+    pub fn begun(forest: &'a Forest) -> Level<'a> {
+        Level {
+            trees: forest.trees(),
+            over: 0,
+        }
+    }
+
+    /// The trees that are over.
+    pub fn over(&self) -> &'a [Tree] {
+        &self.trees[..self.over]
+    }
+
+    /// The tree after them.
+    pub fn next(&self) -> &'a Tree {
+        &self.trees[self.over]
+    }
+}

@@ -3,7 +3,7 @@
 //! | Document 01 | Module |
 //! |---|---|
 //! | Tables | `tables` (rows, in the library `notation`), `shape` (the rules), `forests` (forests as values and rows) |
-//! | Ties | `types` (atoms, heads, Barren), `places` (Tie, fit) |
+//! | Ties | `types` (atoms, heads, Barren), `places` (Tie, fit), `unfit` (where a forest is unfit) |
 //! | How a run goes | `run`, with `purse` for units and depth, `scope` for variables |
 //! | How a check goes | `check`, with `inclusion` |
 //! | Refusals by number | `refusals`, and `answers` (their order, each question) |
@@ -29,6 +29,7 @@ pub mod scope;
 pub mod scripts;
 pub mod shape;
 pub mod types;
+pub mod unfit;
 
 pub use notation;
 pub use notation::tables;

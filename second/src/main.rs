@@ -2,6 +2,7 @@
 
 use notation::{assemble_all, line_and_column, Source, Spare};
 use second::answers::{answers, apply_listing, RESULT_ROWS, WORKING_ROWS};
+use second::cases::Cases;
 use second::{bundles, cases, compare};
 use std::fmt::Write as _;
 use std::io::{Read, Write};
@@ -41,8 +42,11 @@ const COMMANDS: [Command; 8] = [
     },
     Command {
         word: "cases",
-        arguments: "SEED COUNT DIR",
-        does: &["writes random and damaged bundles, the same for a seed, and counts their answers"],
+        arguments: "[--unfit] SEED COUNT DIR",
+        does: &[
+            "writes random and damaged bundles, the same for a seed, and counts their answers;",
+            "with --unfit the forest of every other one is one fault away from type A, at every depth",
+        ],
     },
     Command {
         word: "faults",
@@ -111,10 +115,11 @@ fn go(words: &[&str]) -> Result<u8, Trouble> {
         }
         ["assemble"] => assemble(),
         ["list"] => list(),
+        ["cases", "--unfit", seed, count, directory] => {
+            write_cases(Cases::half_unfit(number(seed)?), count, directory)
+        }
         ["cases", seed, count, directory] => {
-            let histogram =
-                cases::write_cases(number(seed)?, number(count)?, Path::new(directory))?;
-            print(histogram.to_string().as_bytes())
+            write_cases(Cases::new(number(seed)?), count, directory)
         }
         ["faults", directory] => {
             cases::write_faults(Path::new(directory))?;
@@ -131,6 +136,11 @@ fn go(words: &[&str]) -> Result<u8, Trouble> {
         }
         _ => Err(not_understood(words)),
     }
+}
+
+fn write_cases(cases: Cases, count: &str, directory: &str) -> Result<u8, Trouble> {
+    let histogram = cases::write_cases(cases, number(count)?, Path::new(directory))?;
+    print(histogram.to_string().as_bytes())
 }
 
 fn not_understood(words: &[&str]) -> Trouble {

@@ -1,7 +1,7 @@
-//! Document 01, "Ties": the places that may stand next, and what follows from them: Tie, and
-//! whether a forest is of a type.
+//! Document 01, "Ties": the places that may stand next, and what follows from them: Tie, whether a
+//! forest is of a type, and whether it can begin one.
 
-use crate::forests::{Forest, Tree};
+use crate::forests::{Forest, Level, Tree};
 use crate::tables::Type;
 use crate::types::{Head, Types};
 use std::collections::{BTreeMap, HashMap};
@@ -88,6 +88,11 @@ impl After {
     fn with(mut self, other: &After) -> After {
         self.add(other);
         self
+    }
+
+    /// False if no way led here.
+    fn is_reached(&self) -> bool {
+        self.end || self.next.ascending().next().is_some()
     }
 }
 
@@ -204,11 +209,18 @@ impl<'a> Fit<'a> {
         self.forest_is_of(self.forest, row)
     }
 
-    /// Goes along the trees with the set of atoms that the last one may be.
     fn forest_is_of(&mut self, forest: &Forest, row: u16) -> bool {
+        self.after(forest.trees(), row).end
+    }
+
+    /// Goes along the trees with the set of atoms that the last one may be: what may come after them.
+    fn after(&mut self, trees: &[Tree], row: u16) -> After {
         let places = self.places(row);
         let mut at = places.start.clone();
-        for tree in forest.trees() {
+        for tree in trees {
+            if !at.is_reached() {
+                break;
+            }
             let mut then = After::default();
             for atom in at.next.ascending() {
                 if self.tree_is_of(tree, atom) {
@@ -217,7 +229,29 @@ impl<'a> Fit<'a> {
             }
             at = then;
         }
-        at.end
+        at
+    }
+
+    /// True if a forest of the type can begin with what is met, told from the top level down. Every
+    /// type has forests, so each place that is reached leads on to an end.
+    pub fn begins(&mut self, met: &[Level], row: u16) -> bool {
+        let Some((last, above)) = met.split_last() else {
+            return true;
+        };
+        let mut models = vec![row];
+        for level in above {
+            let head = Some(Head::of_tree(level.next()));
+            let mut contents = Vec::new();
+            for row in models {
+                let at = self.after(level.over(), row);
+                let atoms = at.next.ascending();
+                let atoms = atoms.filter(|&atom| self.types.head(atom) == head);
+                contents.extend(atoms.filter_map(|atom| self.types.content(atom)));
+            }
+            models = contents;
+        }
+        let mut models = models.into_iter();
+        models.any(|row| self.after(last.over(), row).is_reached())
     }
 
     fn tree_is_of(&mut self, tree: &Tree, atom: u16) -> bool {

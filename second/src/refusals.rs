@@ -19,6 +19,7 @@ impl Asker {
     }
 }
 
+/// Unfit carries the forest row of the first fault, 0 if the forest itself ends too soon.
 #[derive(Clone, Copy, Debug, PartialEq, Eq)]
 pub enum Refusal {
     Block,
@@ -30,7 +31,7 @@ pub enum Refusal {
     Wide(Asker),
     Mismatch(Asker),
     NotIncluded(Asker),
-    Unfit,
+    Unfit { tree: u16 },
     Stuck(Asker),
     Scratch,
     Room,
@@ -49,7 +50,7 @@ impl Refusal {
             Refusal::Wide(_) => 7,
             Refusal::Mismatch(_) => 8,
             Refusal::NotIncluded(_) => 9,
-            Refusal::Unfit => 10,
+            Refusal::Unfit { .. } => 10,
             Refusal::Stuck(_) => 11,
             Refusal::Scratch => 12,
             Refusal::Room => 13,
@@ -61,6 +62,7 @@ impl Refusal {
         match self {
             Refusal::Barren { name } => (name, 0),
             Refusal::Tie { row, rival } => (row, rival),
+            Refusal::Unfit { tree } => (tree, 0),
             Refusal::Wide(asker)
             | Refusal::Mismatch(asker)
             | Refusal::NotIncluded(asker)
@@ -69,7 +71,6 @@ impl Refusal {
             | Refusal::Shape
             | Refusal::Fuel
             | Refusal::Depth
-            | Refusal::Unfit
             | Refusal::Scratch
             | Refusal::Room => (0, 0),
         }

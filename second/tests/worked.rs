@@ -214,7 +214,7 @@ const ROWS: &str = "\
 #[test]
 fn the_listing() {
     let bundle = to_bundle(&example().sheet());
-    let listing = format!("check 0 38\nfit 0\nrun 0 33 7\n{ROWS}");
+    let listing = format!("check 0 38\nfit 0 0\nrun 0 33 7\n{ROWS}");
     assert_eq!(apply_listing(&bundle), listing);
 }
 
@@ -225,7 +225,8 @@ fn all_answers() {
     let lines: Vec<&str> = text.lines().collect();
     assert_eq!(lines[..2], ["read 0", "check 0 38 0 0"]);
     assert!(lines.contains(&format!("fit {} 0 0 0", sheet.a).as_str()));
-    assert!(lines.contains(&format!("fit {} 10 0 0", sheet.b).as_str()));
+    // In B a c follows each b, so the content of a, which is row 5, ends too soon.
+    assert!(lines.contains(&format!("fit {} 10 5 0", sheet.b).as_str()));
     let end = format!("run 0 33 0 0 7\n{ROWS}apply 0 38 33 0 0 7\n");
     assert!(text.ends_with(&end));
 }

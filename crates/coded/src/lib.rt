@@ -75,7 +75,7 @@ pub fn fitted(answer: Answer) -> Coded
         Answer::Shape => code(SHAPE, 0, 0),
         Answer::Barren(x) => code(BARREN, x, 0),
         Answer::Tie(t) => code(TIE, t.row, t.rival),
-        Answer::Unfit => code(UNFIT, 0, 0),
+        Answer::Unfit(x) => code(UNFIT, x, 0),
     }
 }
 
@@ -165,7 +165,7 @@ pub fn applied(answer: Applied) -> Coded
 {
     match answer {
         Applied::Unchecked(c) => checked(c),
-        Applied::Unfit(_) => code(UNFIT, 0, 0),
+        Applied::Unfit { row, .. } => code(UNFIT, row, 0),
         Applied::Ran(_, r) => ran(r),
     }
 }
@@ -176,7 +176,7 @@ pub fn first_units(answer: Applied) -> usize
 {
     match answer {
         Applied::Unchecked(c) => check_units(c),
-        Applied::Unfit(units) => units,
+        Applied::Unfit { units, .. } => units,
         Applied::Ran(units, _) => units,
     }
 }
@@ -187,7 +187,7 @@ pub fn last_units(answer: Applied) -> usize
 {
     match answer {
         Applied::Unchecked(_) => 0,
-        Applied::Unfit(_) => 0,
+        Applied::Unfit { .. } => 0,
         Applied::Ran(_, r) => run_units(r),
     }
 }
@@ -198,7 +198,7 @@ pub fn applied_root(answer: Applied) -> usize
 {
     match answer {
         Applied::Unchecked(_) => 0,
-        Applied::Unfit(_) => 0,
+        Applied::Unfit { .. } => 0,
         Applied::Ran(_, r) => root(r),
     }
 }

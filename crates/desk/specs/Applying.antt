@@ -1,7 +1,7 @@
 -- The reply that an answer of `apply` is: the check's, fit's and the run's, of which the first refusal ends it; and what is said where each ends.
 use Prim.Native.Nat.{ℕ}
 use mathlib.Core.Path.{_≡_, refl, ap, _∙_, subst}
-use mathlib.Core.Bool.{Bool, true, false}
+use mathlib.Core.Bool.{true}
 use mathlib.Core.List.{List}
 use lib.ListN.{length, replicate}
 use Rattle.meaning.specs.Words.{rowsLent, zeroed}
@@ -10,16 +10,17 @@ use Rattle.meaning.specs.Sheet.{scriptOf, sheetOf}
 use Rattle.meaning.specs.Shape.{shapely}
 use Rattle.meaning.specs.Reply.{Answer, done, refused, unfit, Reply, Loads, Refusal, ApplyReply}
 use Rattle.meaning.specs.Reply as meaning
-use Rattle.meaning.specs.Laws.Bools.{not-both, or-left}
+use Rattle.meaning.specs.Laws.Bools.{or-left}
 use Rattle.meaning.specs.Laws.Shaped.{roots, roots-pass}
 use Rattle.meaning.specs.Laws.Wired.{Wired, ends}
-use lib.Dec.{eqb}
 use borrow.Author.Tests.{eq-eqb}
 use Rattle.sheet.specs.Laid.{Laid}
 use Rattle.sheet.specs.declared.Layout.{Layout}
 use Rattle.type_places.specs.Tables.{setOf, modelOf}
 use Rattle.type_tables.specs.Lent.{Lent}
-use Rattle.fit.specs.Fitting.{IsOf}
+use Rattle.fit.specs.declared.Outcome.{Outcome}
+use Rattle.fit.specs.declared.Outcome.the-variants as outcome
+use Rattle.fit.specs.Fitting.{IsOf, found-as}
 use Rattle.desk.specs.Said.{ranAnswer, ranUnits, ranRoot, Says}
 use Rattle.desk.specs.Checking.{checkedAnswer, checkedUnits, Concludes}
 use Rattle.desk.specs.declared.Ran as running
@@ -30,24 +31,24 @@ use Rattle.desk.specs.declared.Applied.the-variants.{Unchecked, Unfit, R
 
 abbrev pub appliedAnswer : Applied → Answer
 appliedAnswer (Unchecked c) = checkedAnswer c
-appliedAnswer (Unfit units) = refused unfit
+appliedAnswer (Unfit row units) = refused (unfit row)
 appliedAnswer (Ran units r) = ranAnswer r
 
 -- the check's units
 abbrev pub firstUnits : Applied → ℕ
 firstUnits (Unchecked c) = checkedUnits c
-firstUnits (Unfit units) = units
+firstUnits (Unfit row units) = units
 firstUnits (Ran units r) = units
 
 -- the run's
 abbrev pub lastUnits : Applied → ℕ
 lastUnits (Unchecked c) = 0
-lastUnits (Unfit units) = 0
+lastUnits (Unfit row units) = 0
 lastUnits (Ran units r) = ranUnits r
 
 abbrev pub appliedRoot : Applied → ℕ
 appliedRoot (Unchecked c) = 0
-appliedRoot (Unfit units) = 0
+appliedRoot (Unfit row units) = 0
 appliedRoot (Ran units r) = ranRoot r
 
 abbrev pub appliedReply : Applied → List ℕ → List ℕ → Reply
@@ -104,7 +105,7 @@ module _ {s : List ℕ} {l : Layout} (L : Laid s l) where
   pub a-wired : {first behind class same kin : List ℕ} → shapely s ≡ true → Lent s first behind class same kin → Wired (setOf behind) (modelOf s (l .a)) ends
   a-wired e T = rw a-is (T .points .roots (scriptOf s .a) (a-there s e) (or-left _ (or-left _ (or-left _ (or-left _ (eq-eqb (scriptOf s .a) (scriptOf s .a) refl))))))
 
-  pub a-of : {b : Bool} → IsOf s (l .a) b → IsOf s (scriptOf s .a) b
+  pub a-of : {f : Outcome} → IsOf s (l .a) f → IsOf s (scriptOf s .a) f
   a-of h = rw a-is at h
 
 -- a run goes by how many rows are lent
@@ -115,13 +116,13 @@ lent-as e (meaning.Ran.ended l h v u) = meaning.Ran.ended l (rw e at h) v u
 lent-as e (meaning.Ran.no-room l h v u r) = meaning.Ran.no-room l (rw e at h) v u r
 lent-as e (meaning.Ran.gave l h v u n x a) = meaning.Ran.gave l (rw e at h) v u n x a
 
-module _ {s work : List ℕ} {units : ℕ} {c : checking.Checked} (is : c ≡ checked.Done units) (h : Concludes s work c) (e : shapely s ≡ true) (load : Loads s done) {b : Bool}
-    (of : IsOf s (scriptOf s .a) b) where
+module _ {s work : List ℕ} {units : ℕ} {c : checking.Checked} (is : c ≡ checked.Done units) (h : Concludes s work c) (e : shapely s ≡ true) (load : Loads s done) {f : Outcome}
+    (of : IsOf s (scriptOf s .a) f) where
   passed : meaning.Checked s work done units
   passed = subst (λ (x : checking.Checked). meaning.Checked s work (checkedAnswer x) (checkedUnits x)) is (h .said)
 
-  pub applies-unfit : {result : List ℕ} → b ≡ false → Applies s work result (Unfit units) result
-  applies-unfit z = record { said = meaning.Applied.unfitted passed (meaning.Fitted.misfits (a-there s e) load (λ o. not-both (of .1 o) z)) }
+  pub applies-unfit : {result : List ℕ} {row : ℕ} → f ≡ outcome.Fault row → Applies s work result (Unfit row units) result
+  applies-unfit z = record { said = meaning.Applied.unfitted passed (meaning.Fitted.misfits (a-there s e) load (found-as z of)) }
 
-  pub applies-ran : {result : List ℕ} → b ≡ true → {mid after : List ℕ} {r : running.Ran} → length mid ≡ length work → Says s mid result r after → Applies s work result (Ran units r) after
-  applies-ran z n m = record { said = meaning.Applied.applied passed (meaning.Fitted.fits (a-there s e) load (of .0 z)) (lent-as (rw n) (m .said)) }
+  pub applies-ran : {result : List ℕ} → f ≡ outcome.Fits → {mid after : List ℕ} {r : running.Ran} → length mid ≡ length work → Says s mid result r after → Applies s work result (Ran units r) after
+  applies-ran z n m = record { said = meaning.Applied.applied passed (meaning.Fitted.fits (a-there s e) load (found-as z of)) (lent-as (rw n) (m .said)) }

@@ -3,6 +3,7 @@
 use bits::PLACES;
 use bits::Sets;
 use bits::WORDS;
+use fit::Outcome;
 use run_result::handed::Handed;
 use sheet::Layout;
 use type_heads::HEADS;
@@ -297,10 +298,10 @@ pub fn check(s: &[u8], work: &mut [u8]) -> Checked
     answer
 }
 
-// What apply says: the check's refusal; Unfit; or, beside the check's units, what the run says.
+// What apply says: the check's refusal; beside the check's units, Unfit with the row of the first fault, or what the run says.
 pub enum Applied {
     Unchecked(Checked),
-    Unfit(usize),
+    Unfit { row: usize, units: usize },
     Ran(usize, Ran),
 }
 
@@ -324,13 +325,15 @@ fn in_turn(
     let Checked::Done(units) = checked else {
         return Applied::Unchecked(checked);
     };
-    if !fit::of_type(s, l, l.a, first, behind, behind, class, same) {
-        return Applied::Unfit(units);
+    match fit::of_type(s, l, l.a, first, behind, behind, class, same) {
+        Outcome::Fault(row) => Applied::Unfit { row, units },
+        Outcome::Fits => {
+            if run_result::handed::rows_lent(work) < l.rows + l.run_fuel {
+                return Applied::Ran(units, Ran::Scratch);
+            }
+            Applied::Ran(units, walked(s, l, work, result))
+        }
     }
-    if run_result::handed::rows_lent(work) < l.rows + l.run_fuel {
-        return Applied::Ran(units, Ran::Scratch);
-    }
-    Applied::Ran(units, walked(s, l, work, result))
 }
 
 // Refusals 2, 3 and 4, once; then the three questions.

@@ -7,15 +7,11 @@ use mathlib.Core.List.{List}
 use Rattle.meaning.specs.Sheet.{Cells}
 use Rattle.meaning.specs.Forest.{Tree, Forest, treeForm}
 use Rattle.meaning.specs.Types.{Head}
-use Rattle.meaning.specs.Places.{headOf, headAt, contentAt, start, Fits, Admits}
+use Rattle.meaning.specs.Places.{headOf}
+use Rattle.meaning.specs.Faults.{treeHead}
 use Rattle.type_heads.specs.Heads.{headNo, actingAt, headNumber, head-number, Acts, acts-text, acts-bool, acts-label}
 use Rattle.fit.specs.Fitting.{treeNumber}
 use Rattle.meaning.specs.Laws.Trees.{Sort, a-text, a-bool, a-node}
-
-abbrev pub treeHead : Tree → Head
-treeHead (Tree.text w) = Head.text
-treeHead (Tree.bool b) = Head.bool
-treeHead (Tree.node n f) = Head.label n
 
 abbrev pub numberOf : Head → ℕ
 numberOf Head.text = 1024
@@ -76,29 +72,3 @@ module _ (byte : ℕ → ℕ) (c : Cells) (r : ℕ) (f : Forest) where
   tree-small (a-bool (inl e)) = rw e tt
   tree-small (a-bool (inr e)) = rw e tt
   tree-small (a-node e p q) = rw e p
-
-  -- a tree fits a place exactly if they have one head and its children are of the place's content
-  module _ (row : ℕ → Cells) (nameRow : ℕ → ℕ) (b : ℕ) where
-    abbrev Filled : Type 0
-    Filled = Admits row nameRow f (contentAt row nameRow b) (start (contentAt row nameRow b))
-
-    pub fits-head : Sort c r → Fits row nameRow tree b → headAt row nameRow b ≡ treeHead tree
-    unfolding Fits
-    fits-head (a-text e) = rw e (λ x. x)
-    fits-head (a-bool (inl e)) = rw e (λ x. x)
-    fits-head (a-bool (inr e)) = rw e (λ x. x)
-    fits-head (a-node e p q) = rw e (λ x. x .0)
-
-    pub fits-inside : Sort c r → Fits row nameRow tree b → c .kind ≡ 4 → Filled
-    unfolding Fits
-    fits-inside (a-text e) = λ x k. absurd (omega arith)
-    fits-inside (a-bool (inl e)) = λ x k. absurd (omega arith)
-    fits-inside (a-bool (inr e)) = λ x k. absurd (omega arith)
-    fits-inside (a-node e p q) = rw e (λ x k. x .1)
-
-    pub head-fits : Sort c r → headAt row nameRow b ≡ treeHead tree → (c .kind ≡ 4 → Filled) → Fits row nameRow tree b
-    unfolding Fits
-    head-fits (a-text e) = rw e (λ x y. x)
-    head-fits (a-bool (inl e)) = rw e (λ x y. x)
-    head-fits (a-bool (inr e)) = rw e (λ x y. x)
-    head-fits (a-node e p q) = rw e (λ x y. (x, y refl))

@@ -1,4 +1,3 @@
-pub mod Held
 pub mod Shaped
 pub mod Heads
 pub mod Step

@@ -1,5 +1,5 @@
--- One step of the walk is exact: where no rivals stand at a point, the one place with the tree's head is the only one that the tree can take. From `Single` (Held) and what the tables hold (`Ready`).
-use Prim.Native.Nat.{ℕ, zero, suc, _≤_, _<_}
+-- One step of the walk: a place with the tree's head that may stand at a point is found in the tables (`Ready`), or there is none.
+use Prim.Native.Nat.{ℕ, _≤_, _<_}
 use mathlib.Core.Path.{_≡_, refl, sym, _∙_, ap}
 use mathlib.Core.Bool.{Bool, true, false, cond}
 use mathlib.Core.List.{List}
@@ -10,12 +10,13 @@ use lib.ListN.{getD}
 use borrow.Author.Tests.{eqb-true, eq-eqb, lt-ltb}
 use Rattle.meaning.specs.Tests.{inTable}
 use Rattle.meaning.specs.Sheet.{Cells, scriptOf, groveOf}
-use Rattle.meaning.specs.Forest.{Tree, cons, treeForm}
+use Rattle.meaning.specs.Forest.{Tree}
 use Rattle.meaning.specs.Types.{Head}
-use Rattle.meaning.specs.Places.{Model, first, follows, start, next, headOf, headAt, Admits}
+use Rattle.meaning.specs.Places.{Model, first, follows, start, next, headOf, headAt, Fits, Admits}
+use Rattle.meaning.specs.Faults.{treesAt, treeAt, treeHead}
+use Rattle.meaning.specs.Faults as faults
 use Rattle.meaning.specs.Laws.Bools.{and-left, and-right, and-both, not-both}
 use Rattle.meaning.specs.Laws.Tests.{in-table, table-high}
-use Rattle.meaning.specs.Laws.Rows.{forestAt-suc}
 use Rattle.meaning.specs.Laws.Wired.{has}
 use Rattle.meaning.specs.Laws.Apart.{first-has, follows-has, model-placed, model-below, shaped-lower}
 use Rattle.meaning.specs.Laws.Points.{has-first, has-follows}
@@ -23,11 +24,11 @@ use Rattle.meaning.specs.Laws.Shaped.{few-types}
 use Rattle.bits.specs.Sets.{inSet}
 use Rattle.type_places.specs.Tables.{modelOf}
 use Rattle.type_heads.specs.Heads.{actingAt, headNumber, Acts, acts-text, acts-bool, acts-label}
-use Rattle.fit.specs.Fitting.{treeNumber, Looked, point, treesAt, GoesOn, Inside, Ready, Walks, Walking}
-use Rattle.fit.proofs.Held.{single}
-use Rattle.meaning.specs.Laws.Trees.{Sort, a-text, a-bool, a-node, tree-row, low-rows}
+use Rattle.fit.specs.Fitting.{treeNumber, Looked, point, GoesOn, GoesWrong, Inside, Ready, Walks, Walking}
+use Rattle.meaning.specs.Theorems.Faults.{grows}
+use Rattle.meaning.specs.Laws.Trees.{Sort, a-text, a-bool, a-node, tree-row, head-fits}
 use Rattle.fit.proofs.Shaped.{acts}
-use Rattle.fit.proofs.Heads.{treeHead, numberOf, Small, small-number, one-head, place-number, place-small, tree-number, tree-small, fits-head, fits-inside, head-fits}
+use Rattle.fit.proofs.Heads.{numberOf, Small, small-number, one-head, place-number, place-small, tree-number, tree-small}
 
 -- ---- what stands at a point is a place
 
@@ -84,11 +85,7 @@ module _ {s : List ℕ} {firsts behind class same : List ℕ} (R : Ready s first
   point-has true a b l h = first-has m b (start-first m b l h)
   point-has false a b l h = follows-has m a b (next-follows m a b l h)
 
-  point-single : (fresh : Bool) (c a b : ℕ) → 1 ≤ a → 1 ≤ b → point m fresh c a ≡ true → point m fresh c b ≡ true → head a ≡ head b → a ≡ b
-  point-single true c a b p q x y h = single s (R .shaped) (R .untied) k K .begin a b (start-first m a p x) (start-first m b q y) h
-  point-single false c a b p q x y h = single s (R .shaped) (R .untied) k K .behind c a b (next-follows m c a p x) (next-follows m c b q y) h
-
-  module _ {r : ℕ} {fresh : Bool} {a : ℕ} (Y : Walking s r₀ k r fresh a) (z : r ≡ 0 → ⊥) {b : ℕ}
+  module _ {parent r : ℕ} {fresh : Bool} {a : ℕ} (Y : Walking s parent r₀ k r fresh a) (z : r ≡ 0 → ⊥) {b : ℕ}
       (L : Looked (cond fresh firsts t) a (treeNumber (groveOf s .row r)) class same b) where
     w : Stands fresh a
     w = (Y .at-start, Y .at-place)
@@ -103,16 +100,16 @@ module _ {s : List ℕ} {firsts behind class same : List ℕ} (R : Ready s first
     c = groveOf s .row r
 
     abbrev tree : Tree
-    tree = treeForm (groveOf s .byte) c (treesAt s (c .q))
+    tree = treeAt (groveOf s) r
 
     sort : Sort c r
     sort = tree-row s (R .shaped) r low high .sort
 
     number : treeNumber c ≡ numberOf (treeHead tree)
-    number = tree-number (groveOf s .byte) c r (treesAt s (c .q)) sort
+    number = tree-number (groveOf s .byte) c r (treesAt (groveOf s) (c .q)) sort
 
     small : Small (treeHead tree)
-    small = tree-small (groveOf s .byte) c r (treesAt s (c .q)) sort
+    small = tree-small (groveOf s .byte) c r (treesAt (groveOf s) (c .q)) sort
 
     numbered : treeNumber c < 1026
     numbered = omega (arith, number, small-number (treeHead tree) small)
@@ -135,30 +132,15 @@ module _ {s : List ℕ} {firsts behind class same : List ℕ} (R : Ready s first
     class-number : (x : ℕ) → x < 576 → inSet same (getD class (treeNumber c) 0) x ≡ true → headNumber s x ≡ treeNumber c
     class-number x l h = eqb-true (headNumber s x) (treeNumber c) (and-right (inTable (scriptOf s .types) x) _ (sym (R .classes .members (treeNumber c) numbered x l) ∙ h))
 
-    -- the trees at row r are this tree and the trees at its next
-    trees : treesAt s r ≡ cons tree (treesAt s (c .r))
-    trees = go r low high
-      where
-        go : (r : ℕ) → 1 ≤ r → r ≤ groveOf s .rows → treesAt s r ≡ cons (treeForm (groveOf s .byte) (groveOf s .row r) (treesAt s (groveOf s .row r .q))) (treesAt s (groveOf s .row r .r))
-        go zero p q = absurd (omega arith)
-        go (suc r) p q = forestAt-suc (groveOf s .byte) (groveOf s .row) r (low-rows s (R .shaped) (suc r) q)
-
-    abbrev Rest : Type 0
-    Rest = Admits (scriptOf s .typeRow) (scriptOf s .nameRow) (cons tree (treesAt s (c .r))) m (point m fresh a)
-
     -- no place has the tree's head
-    missed-rest : 576 ≤ b → Rest → ⊥
-    unfolding Admits
-    missed-rest n (x, p, q, f, g) =
-        let h = point-has fresh a x p q in
+    pub missed : 576 ≤ b → GoesWrong s parent r m (point m fresh a) r
+    missed n = faults.Fault.head low (λ x d.
+        let h = point-has fresh a x (d .is-place) (d .may-stand) in
         let u = place-high x h in
-        let y = has-number x h (fits-head (groveOf s .byte) c r (treesAt s (c .q)) (scriptOf s .typeRow) (scriptOf s .nameRow) x sort f) in
-        not-both (and-both (inSet (cond fresh firsts t) a x) (inSet same (getD class (treeNumber c) 0) x) (point-set fresh a w x (omega arith) ∙ q) (in-class x h y)) (L .none n numbered x p (omega arith))
+        not-both (and-both (inSet (cond fresh firsts t) a x) (inSet same (getD class (treeNumber c) 0) x) (point-set fresh a w x (omega arith) ∙ d .may-stand)
+        (in-class x h (has-number x h (d .has-head)))) (L .none n numbered x (d .is-place) (omega arith)))
 
-    pub missed : 576 ≤ b → GoesOn s r m (point m fresh a) → ⊥
-    missed n x = missed-rest n (rw trees at x)
-
-    -- a place is found: it is the only one that the tree can take
+    -- a place is found: the tree's head stands there
     module _ (n : b < 576) where
       found-low : 1 ≤ b
       found-low = L .here n .1
@@ -175,23 +157,26 @@ module _ {s : List ℕ} {firsts behind class same : List ℕ} (R : Ready s first
       found-head : head b ≡ treeHead tree
       found-head = has-head b found-has found-number
 
+      stands : faults.Stands (scriptOf s .typeRow) (scriptOf s .nameRow) (groveOf s) (point m fresh a) r b
+      stands = record { is-place = found-low; may-stand = at-point; has-head = found-head }
+
       -- its children are of the place's content
       abbrev Filled : Type 0
       Filled = c .kind ≡ 4 → Inside s (c .q) (actingAt s b .q)
 
-      on-rest : Rest → Filled × GoesOn s (c .r) m (next m b)
-      unfolding Admits
-      on-rest (x, p, q, f, g) =
-          let h = fits-head (groveOf s .byte) c r (treesAt s (c .q)) (scriptOf s .typeRow) (scriptOf s .nameRow) x sort f in
-          let e : x ≡ b = point-single fresh a x b p found-low q at-point (h ∙ sym found-head) in
-          (rw e at (fits-inside (groveOf s .byte) c r (treesAt s (c .q)) (scriptOf s .typeRow) (scriptOf s .nameRow) x sort f), rw e at g)
+      fitting : Filled → Fits (scriptOf s .typeRow) (scriptOf s .nameRow) tree b
+      fitting y = head-fits (groveOf s .byte) c r (treesAt (groveOf s) (c .q)) (scriptOf s .typeRow) (scriptOf s .nameRow) b sort found-head y
 
-      pub taken-on : GoesOn s r m (point m fresh a) → Filled × GoesOn s (c .r) m (next m b)
-      taken-on x = on-rest (rw trees at x)
-
-      pub taken-back : Filled → GoesOn s (c .r) m (next m b) → GoesOn s r m (point m fresh a)
+      pub taken : Filled → GoesOn s (c .r) m (next m b) → GoesOn s r m (point m fresh a)
       unfolding Admits
-      taken-back y g = rw trees (b, found-low, at-point, head-fits (groveOf s .byte) c r (treesAt s (c .q)) (scriptOf s .typeRow) (scriptOf s .nameRow) b sort found-head y, g)
+      taken y g = rw (grows s (R .shaped) r low high) (b, found-low, at-point, fitting y, g)
+
+      -- the fault is behind the tree, or inside it
+      pub wrong-behind : Filled → (x : ℕ) → GoesWrong s parent (c .r) m (next m b) x → GoesWrong s parent r m (point m fresh a) x
+      wrong-behind y x g = faults.Fault.behind low stands (fitting y) g
+
+      pub wrong-inside : c .kind ≡ 4 → (x : ℕ) → GoesWrong s r (c .q) (modelOf s (actingAt s b .q)) (start (modelOf s (actingAt s b .q))) x → GoesWrong s parent r m (point m fresh a) x
+      wrong-inside e x g = faults.Fault.inside low stands e g
 
       pub found-content : c .kind ≡ 4 → (actingAt s b .kind ≡ 4) × (inTable (scriptOf s .types) (actingAt s b .q) ≡ true)
       found-content e = let z = acts s (R .shaped) k b found-has in

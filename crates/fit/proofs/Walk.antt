@@ -1,14 +1,13 @@
 -- The walk over the trees at a row, place by place: what each place of the code holds, from one step's laws (Step).
 use Prim.Native.Nat.{ℕ, _≤_, _<_}
 use mathlib.Core.Path.{_≡_, refl, sym, _∙_, ap}
-use mathlib.Core.Bool.{Bool, true, false, not, cond, false≢true}
+use mathlib.Core.Bool.{Bool, true, false, cond, false≢true}
 use mathlib.Core.List.{List}
-use mathlib.Core.Logic.{_↔_}
 use native.Mathlib.Omega.{arith}
-use borrow.Author.Tests.{not-true, not-false}
 use lib.ListN.{getD}
 use Rattle.meaning.specs.Sheet.{Cells, groveOf}
 use Rattle.meaning.specs.Places.{Model, Admits}
+use Rattle.meaning.specs.Faults as faults
 use Rattle.meaning.specs.Laws.Rows.{forestAt-zero}
 use Rattle.meaning.specs.Laws.Shaped.{few-types}
 use Rattle.bits.specs.Sets.{inSet}
@@ -16,40 +15,53 @@ use Rattle.sheet.specs.Laid.{cellsOf}
 use Rattle.sheet.specs.declared.Row.{Row}
 use Rattle.type_places.specs.Tables.{modelOf}
 use Rattle.type_heads.specs.Heads.{actingAt}
-use Rattle.fit.specs.Fitting.{treeNumber, Looked, point, GoesOn, Inside, Ready, Walks, Walking}
+use Rattle.fit.specs.declared.Outcome.{Outcome}
+use Rattle.fit.specs.declared.Outcome.the-variants as outcome
+use Rattle.fit.specs.Fitting.{treeNumber, Looked, point, GoesOn, Inside, FindsBy, Finds, Ready, Walks, Walking}
 use Rattle.fit.proofs.Whole.{contents}
 use Rattle.fit.proofs.Step as step
 
+-- a finding by another name
+found-as : {s : List ℕ} {parent r k : ℕ} {f g : Outcome} → f ≡ g → Finds s parent r k f → FindsBy s parent r k g
+found-as e x = rw e at (x .by)
+
 module _ {s : List ℕ} {firsts behind class same : List ℕ} (R : Ready s firsts behind class same) {r₀ k : ℕ} {t : List ℕ} (W : Walks s r₀ k t) where
-  pub begins : Walking s r₀ k r₀ true k
-  begins = record { low = omega arith; at-start = λ e. refl; at-place = λ e. absurd (false≢true (sym e)); on = λ x. x; back = λ x. x }
+  pub begins : {parent : ℕ} → Walking s parent r₀ k r₀ true k
+  begins = record { low = omega arith; at-start = λ e. refl; at-place = λ e. absurd (false≢true (sym e)); fits = λ x. x; fault = λ x w. w }
 
   -- every class is a set of the table
   pub few : (h : ℕ) → h < 1026 → getD class h 0 ≤ 512
   few h l = omega (arith, R .classes .leader h l, few-types s (R .shaped))
 
-  module _ {r : ℕ} {fresh : Bool} {a : ℕ} (Y : Walking s r₀ k r fresh a) where
+  module _ {parent r : ℕ} {fresh : Bool} {a : ℕ} (Y : Walking s parent r₀ k r fresh a) where
     abbrev m : Model
     m = modelOf s k
 
     pub index : a ≤ 512
     index = step.point-index R W fresh a (Y .at-start, Y .at-place)
 
-    -- no tree is left
-    none-left : r ≡ 0 → GoesOn s r m (point m fresh a) ↔ point m fresh a 0 ≡ true
+    -- no tree is left: the content may end, or ends too soon
+    none-left : r ≡ 0 → point m fresh a 0 ≡ true → GoesOn s r m (point m fresh a)
     unfolding Admits
-    none-left e = rw (e, forestAt-zero (groveOf s .byte) (groveOf s .row)) (λ x. x, λ x. x)
+    none-left e x = rw (e, forestAt-zero (groveOf s .byte) (groveOf s .row)) x
 
-    pub ended : r ≡ 0 → (x : Bool) → x ≡ inSet (cond fresh firsts t) a 0 → x ≡ true ↔ Inside s r₀ k
-    ended z x e = let h = e ∙ step.point-set R W fresh a (Y .at-start, Y .at-place) 0 (omega arith) in (λ y. Y .back (none-left z .1 (sym h ∙ y)), λ y. h ∙ none-left z .0 (Y .on y))
+    module _ (z : r ≡ 0) (x : Bool) (e : x ≡ inSet (cond fresh firsts t) a 0) where
+      at-end : x ≡ point m fresh a 0
+      at-end = e ∙ step.point-set R W fresh a (Y .at-start, Y .at-place) 0 (omega arith)
+
+      pub ended : x ≡ true → Finds s parent r₀ k outcome.Fits
+      ended y = record { by = Y .fits (none-left z (sym at-end ∙ y)) }
+
+      pub too-soon : x ≡ false → Finds s parent r₀ k (outcome.Fault parent)
+      too-soon y = record { by = Y .fault parent (faults.Fault.ends z (sym at-end ∙ y)) }
 
     module _ (z : r ≡ 0 → ⊥) (c : Row) (C : cellsOf c ≡ groveOf s .row r) {h : ℕ} (H : h ≡ treeNumber (cellsOf c)) {b : ℕ} (L : Looked (cond fresh firsts t) a h class same b) where
       here : Looked (cond fresh firsts t) a (treeNumber (groveOf s .row r)) class same b
       here = rw (H ∙ ap treeNumber C) at L
 
       -- no place has the tree's head
-      pub missed : 576 ≤ b → false ≡ true ↔ Inside s r₀ k
-      missed n = (λ e. absurd (false≢true e), λ x. absurd (step.missed R W Y z here n (Y .on x)))
+      pub missed : 576 ≤ b → Finds s parent r₀ k (outcome.Fault r)
+      missed n = record { by = Y .fault r (step.missed R W Y z here n) }
 
       kind-is : c .kind ≡ groveOf s .row r .kind
       kind-is = ap (λ (x : Cells). x .kind) C
@@ -71,15 +83,15 @@ module _ {s : List ℕ} {firsts behind class same : List ℕ} (R : Ready s first
         pub next-lower : c .r < r
         next-lower = omega (arith, next-is, step.next-lower R W Y z here)
 
-        pub goes-on : Filled → Walking s r₀ k (c .r) false b
-        goes-on f = record {
-          low = omega (arith, Y .low, next-lower);
-          at-start = λ e. absurd (false≢true e);
-          at-place = λ e. step.found-has R W Y z here n;
-          on = λ x. rw next-is (step.taken-on R W Y z here n (Y .on x) .1);
-          back = λ x. Y .back (step.taken-back R W Y z here n
-              (λ e. rw child-is at (f (kind-is ∙ e))) (rw next-is at x));
-        }
+        pub goes-on : Filled → Walking s parent r₀ k (c .r) false b
+        goes-on f =
+            let g : groveOf s .row r .kind ≡ 4 → Inside s (groveOf s .row r .q) (actingAt s b .q) = λ e. rw child-is at (f (kind-is ∙ e)) in record {
+              low = omega (arith, Y .low, next-lower);
+              at-start = λ e. absurd (false≢true e);
+              at-place = λ e. step.found-has R W Y z here n;
+              fits = λ x. Y .fits (step.taken R W Y z here n g (rw next-is at x));
+              fault = λ x w. Y .fault x (step.wrong-behind R W Y z here n g x (rw next-is at w));
+            }
 
         module _ (q : ℕ) (Q : q ≡ actingAt s b .q) (K : c .kind ≡ 4) where
           pub child : c .q < r
@@ -92,8 +104,9 @@ module _ {s : List ℕ} {firsts behind class same : List ℕ} (R : Ready s first
             nexts = rw Q (contents s (R .shaped) (R .points) b (x .0));
           }
 
-          pub filled : (x : Bool) → x ≡ true ↔ Inside s (c .q) (q) → not x ≡ false → Filled
-          filled x i e y = rw Q at (i .0 (not-false x e))
+          pub filled : {f : Outcome} → Finds s r (c .q) q f → f ≡ outcome.Fits → Filled
+          filled i e y = rw Q at (found-as e i)
 
-          pub outside : (x : Bool) → x ≡ true ↔ Inside s (c .q) (q) → not x ≡ true → false ≡ true ↔ Inside s r₀ k
-          outside x i e = (λ y. absurd (false≢true y), λ y. sym (not-true x e) ∙ i .1 (rw (child-is, Q) (step.taken-on R W Y z here n (Y .on y) .0 (sym kind-is ∙ K))))
+          -- the fault is inside the tree
+          pub wrong : {f : Outcome} {x : ℕ} → Finds s r (c .q) q f → f ≡ outcome.Fault x → Finds s parent r₀ k (outcome.Fault x)
+          wrong {x = x} i e = record { by = Y .fault x (step.wrong-inside R W Y z here n (sym kind-is ∙ K) x (rw (child-is, Q) at (found-as e i))) }

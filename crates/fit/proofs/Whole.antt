@@ -3,7 +3,7 @@ use Prim.Native.Nat.{ℕ, _≤_, _<_}
 use mathlib.Core.Path.{_≡_, refl, sym, _∙_}
 use mathlib.Core.Bool.{Bool, true, false, _&&_, not, cond}
 use mathlib.Core.List.{List}
-use mathlib.Core.Logic.{inl, inr, _↔_, Iff·trans}
+use mathlib.Core.Logic.{inl, inr}
 use native.Mathlib.Omega.{arith}
 use lib.Dec.{eqb}
 use lib.ListN.{getD, set, replicate, length-replicate}
@@ -28,7 +28,9 @@ use Rattle.type_places.specs.Tables.{modelOf, setOf, Wires, Free}
 use Rattle.type_tables.specs.Points.{SheetPoints}
 use Rattle.type_models.specs.Roots.{isRoot, Rooted}
 use Rattle.type_heads.specs.Heads.{actingAt}
-use Rattle.fit.specs.Fitting.{Nexts, Inside, Walks, Told, IsOf}
+use Rattle.fit.specs.declared.Outcome.{Outcome}
+use Rattle.fit.specs.declared.Outcome.the-variants as outcome
+use Rattle.fit.specs.Fitting.{Nexts, Finds, Walks, Told, IsOf}
 use Rattle.meaning.specs.Laws.Trees.{root-row}
 
 root-is : {s : List ℕ} {l : Layout} → Laid s l → l .root ≡ groveOf s .root
@@ -92,8 +94,9 @@ module _ {s : List ℕ} {l : Layout} {told : ℕ} {first behind class same : Lis
   pub walked : {next : List ℕ} → Wired (setOf next) (modelOf s told) ends → Walks s (l .root) told next
   walked {next} w = record { is-tree = omega (arith, root-row s (T .ready .shaped), root-is (T .laid)); is-type = T .is-type; nexts = nexts next (modelOf s told) w }
 
-  pub of-type : (b : Bool) → b ≡ true ↔ Inside s (l .root) told → IsOf s told b
-  of-type b x = Iff·trans (rw (root-is (T .laid)) at x) (places-say s (T .ready .shaped) told (forestOf (groveOf s)))
+  pub of-type : (f : Outcome) → Finds s 0 (l .root) told f → IsOf s told f
+  of-type outcome.Fits x = record { by = places-say s (T .ready .shaped) told (forestOf (groveOf s)) .0 (rw (root-is (T .laid)) at (x .by)) }
+  of-type (outcome.Fault y) x = record { by = rw (root-is (T .laid)) at (x .by) }
 
 -- ---- the answer
 

@@ -8,4 +8,4 @@ fitOf answer.Done = done
 fitOf answer.Shape = refused shape
 fitOf (answer.Barren x) = refused (barren x)
 fitOf (answer.Tie t) = refused (tie (t .row) (t .rival))
-fitOf answer.Unfit = refused unfit
+fitOf (answer.Unfit x) = refused (unfit x)

@@ -1,15 +1,15 @@
--- What the walk over a forest says: whether the trees at a row are of the model at a row, and what it asks of the tables that it goes by.
+-- What the walk over a forest says: that the trees at a row are of the model at a row, or their first fault; and what it asks of the tables that it goes by.
 use Prim.Native.Nat.{ℕ, _≤_, _<_}
 use mathlib.Core.Path.{_≡_}
 use mathlib.Core.Bool.{Bool, true, false}
 use mathlib.Core.List.{List, [], _∷_}
-use mathlib.Core.Logic.{_↔_}
 use lib.ListN.{getD}
 use Rattle.meaning.specs.Tests.{inTable}
 use Rattle.meaning.specs.Sheet.{Cells, scriptOf, groveOf}
-use Rattle.meaning.specs.Forest.{Forest, forestAt, forestOf}
+use Rattle.meaning.specs.Forest.{forestOf}
 use Rattle.meaning.specs.Types.{Of, declared, namesIn}
 use Rattle.meaning.specs.Shape.{shapely}
+use Rattle.meaning.specs.Faults.{treesAt, Fault, FaultOf}
 use Rattle.meaning.specs.Places.{Model, Set, start, next, Admits, Untied}
 use Rattle.meaning.specs.Reply.{Loads, done, sound}
 use Rattle.meaning.specs.Laws.Wired.{has}
@@ -20,6 +20,8 @@ use Rattle.type_tables.specs.Lent.{Lent}
 use Rattle.type_heads.specs.Classes.{Classes}
 use Rattle.sheet.specs.Laid.{Laid}
 use Rattle.sheet.specs.declared.Layout.{Layout}
+use Rattle.fit.specs.declared.Outcome.{Outcome}
+use Rattle.fit.specs.declared.Outcome.the-variants as outcome
 
 -- a tree's head by number, as places have theirs (`headNumber`): its label, 1024 a text, 1025 a bool; 1026 is no head
 abbrev pub treeNumber : Cells → ℕ
@@ -40,16 +42,25 @@ point m true a = start m
 point m false a = next m a
 
 module _ (s : List ℕ) where
-  abbrev pub treesAt : ℕ → Forest
-  treesAt r = forestAt (groveOf s .byte) (groveOf s .row) r
-
   -- the trees at row r go on from a point of the model m
   abbrev pub GoesOn : ℕ → Model → Set → Type 0
-  GoesOn r m p = Admits (scriptOf s .typeRow) (scriptOf s .nameRow) (treesAt r) m p
+  GoesOn r m p = Admits (scriptOf s .typeRow) (scriptOf s .nameRow) (treesAt (groveOf s) r) m p
+
+  -- or x is their first fault, where they are children of the tree at row `parent`
+  abbrev pub GoesWrong : ℕ → ℕ → Model → Set → ℕ → Type 0
+  GoesWrong parent r m p x = Fault (scriptOf s .typeRow) (scriptOf s .nameRow) (groveOf s) parent r m p x
 
   -- the trees at row r are of the model at row k
   abbrev pub Inside : ℕ → ℕ → Type 0
   Inside r k = GoesOn r (modelOf s k) (start (modelOf s k))
+
+  -- what is found of the trees at row r against the model at row k
+  abbrev pub FindsBy : ℕ → ℕ → ℕ → Outcome → Type 0
+  FindsBy parent r k outcome.Fits = Inside r k
+  FindsBy parent r k (outcome.Fault x) = GoesWrong parent r (modelOf s k) (start (modelOf s k)) x
+
+  pub record Finds (parent r k : ℕ) (f : Outcome) : Type 0 where
+    pub by : FindsBy parent r k f
 
   -- a shaped sheet without ties, and its tables
   pub record Ready (first behind class same : List ℕ) : Type 0 where
@@ -65,12 +76,12 @@ module _ (s : List ℕ) where
     pub nexts : Nexts next-sets (modelOf s k)
 
   -- a walk that began at row r₀ in the model at row k stands at row r, at the model's start or behind its place a
-  pub record Walking (r₀ k r : ℕ) (fresh : Bool) (a : ℕ) : Type 0 where
+  pub record Walking (parent r₀ k r : ℕ) (fresh : Bool) (a : ℕ) : Type 0 where
     pub low : r ≤ r₀
     pub at-start : fresh ≡ true → a ≡ k
     pub at-place : fresh ≡ false → has (modelOf s k) a ≡ true
-    pub on : Inside r₀ k → GoesOn r (modelOf s k) (point (modelOf s k) fresh a)
-    pub back : GoesOn r (modelOf s k) (point (modelOf s k) fresh a) → Inside r₀ k
+    pub fits : GoesOn r (modelOf s k) (point (modelOf s k) fresh a) → Inside r₀ k
+    pub fault : (x : ℕ) → GoesWrong parent r (modelOf s k) (point (modelOf s k) fresh a) x → GoesWrong parent r₀ (modelOf s k) (start (modelOf s k)) x
 
   -- the question: a row of its types besides
   pub record Told (l : Layout) (told : ℕ) (first behind class same : List ℕ) : Type 0 where
@@ -78,9 +89,17 @@ module _ (s : List ℕ) where
     pub is-type : inTable (scriptOf s .types) told ≡ true
     pub ready : Ready first behind class same
 
-  -- b says whether the sheet's forest is of the type at row told
-  abbrev pub IsOf : ℕ → Bool → Type 0
-  IsOf told b = b ≡ true ↔ Of (namesIn (scriptOf s)) (declared (scriptOf s) told) (forestOf (groveOf s))
+  -- what is found of the sheet's forest: it is of the type at row told, or its first fault
+  abbrev pub IsOfBy : ℕ → Outcome → Type 0
+  IsOfBy told outcome.Fits = Of (namesIn (scriptOf s)) (declared (scriptOf s) told) (forestOf (groveOf s))
+  IsOfBy told (outcome.Fault x) = FaultOf s told x
+
+  pub record IsOf (told : ℕ) (f : Outcome) : Type 0 where
+    pub by : IsOfBy told f
+
+-- what is found, by another name
+pub found-as : {s : List ℕ} {told : ℕ} {f g : Outcome} → f ≡ g → IsOf s told f → IsOfBy s told g
+found-as e x = rw e at (x .by)
 
 -- the tables are as they were lent when 2 to 4 were judged
 pub told-lent : {s : List ℕ} {l : Layout} {told : ℕ} {first behind class same kin : List ℕ} → Laid s l → inTable (scriptOf s .types) told ≡ true → Loads s done → Lent s first behind class same kin

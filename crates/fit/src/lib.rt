@@ -1,4 +1,5 @@
-// Fit: is the sheet's forest of the type at a row. Siblings are walked in a loop; only nesting costs stack.
+// Fit: is the sheet's forest of the type at a row, and where is its first fault. Siblings are walked in a loop; only nesting costs
+// stack.
 use bits::PLACES;
 use bits::ROWS;
 use bits::Sets;
@@ -10,8 +11,7 @@ use type_heads::Leads;
 use type_ties::Soundness;
 use type_ties::Tied;
 ghost use mathlib.Core.Path.{_≡_};
-ghost use mathlib.Core.Bool.{true, cond};
-ghost use mathlib.Core.Logic.{_↔_};
+ghost use mathlib.Core.Bool.{cond};
 ghost use Prim.Native.Nat.{ℕ, _≤_, _<_};
 ghost use lib.ListN.{getD};
 ghost use Rattle.bits.specs.Sets.{inSet};
@@ -23,15 +23,21 @@ ghost use Rattle.sheet.specs.Whole.{Whole};
 ghost use Rattle.type_heads.specs.Heads.{actingAt};
 ghost use Rattle.type_places.specs.Tables.{modelOf, setOf};
 ghost use Rattle.fit.specs.Answers.{fitOf};
-ghost use Rattle.fit.specs.Fitting.{treeNumber, Looked, Inside, Ready, Walks, Told, IsOf};
+ghost use Rattle.fit.specs.Fitting.{treeNumber, Looked, Ready, Walks, Finds, Told, IsOf};
 
-// Done, or the refusal: 2, 3 with the name, 4 with the row and its rival, 10.
+// Done, or the refusal: 2, 3 with the name, 4 with the row and its rival, 10 with the row of the first fault.
 pub enum Answer {
     Done,
     Shape,
     Barren(usize),
     Tie(Tied),
-    Unfit,
+    Unfit(usize),
+}
+
+// What is found of trees: they fit, or the row of their first fault.
+pub enum Outcome {
+    Fits,
+    Fault(usize),
 }
 
 // The head of a tree by number: a label, 1024 text, 1025 bool.
@@ -99,10 +105,12 @@ fn content_at(s: &[u8], a: usize) -> usize
     type_heads::acting(s, sheet::lay_out(s), a).q
 }
 
-// Whether the trees at row `r` are of the model at row `k`, whose next sets are in `next`: each tree takes the one place with its head,
-// its children start that place's content.
+// The trees at row `r`, children of the tree at row `parent`, against the model at row `k`, whose next sets are in `next`: each tree
+// takes
+// the one place with its head, its children start that place's content.
 fn trees(
     s: &[u8],
+    parent: usize,
     r: usize,
     k: usize,
     first: &Sets,
@@ -110,9 +118,9 @@ fn trees(
     behind: &Sets,
     class: &Leads,
     same: &Sets,
-) -> bool
+) -> Outcome
     requires { ⌜ Ready (now s) (now first) (now behind) (now class) (now same) × Walks (now s) r k (now next) ⌝ }
-    ensures { λ b. ⌜ (b ≡ true ↔ Inside (now (s .entry)) r k) ⌝ }
+    ensures { λ f. ⌜ Finds (now (s .entry)) parent r k f ⌝ }
 {
     let mut r = r;
     let mut a = k;
@@ -121,22 +129,26 @@ fn trees(
         let c = tree_at(s, r);
         let b = place(tree_head(c), fresh, a, first, next, class, same);
         if PLACES <= b {
-            return false;
+            return Outcome::Fault(r);
         }
         if c.kind == 4 {
             let q = content_at(s, b);
-            if !trees(s, c.q, q, first, behind, behind, class, same) {
-                return false;
+            match trees(s, r, c.q, q, first, behind, behind, class, same) {
+                Outcome::Fits => {}
+                Outcome::Fault(x) => return Outcome::Fault(x),
             }
         }
         r = c.r;
         a = b;
         fresh = false;
     }
-    may_end(fresh, a, first, next)
+    if may_end(fresh, a, first, next) {
+        return Outcome::Fits;
+    }
+    Outcome::Fault(parent)
 }
 
-// Whether the sheet's forest is of the type at row `told`, by the sheet's tables (`type_tables::judge`) and the next sets of that row's
+// The sheet's forest against the type at row `told`, by the sheet's tables (`type_tables::judge`) and the next sets of that row's
 // model: those of a root are in `behind`.
 pub fn of_type(
     s: &[u8],
@@ -147,12 +159,12 @@ pub fn of_type(
     behind: &Sets,
     class: &Leads,
     same: &Sets,
-) -> bool
+) -> Outcome
     requires { ⌜ Told (now s) l told (now first) (now behind) (now class) (now same) ⌝ }
     requires { ⌜ Wired (setOf (now next)) (modelOf (now s) told) ends ⌝ }
-    ensures { λ b. ⌜ IsOf (now (s .entry)) told b ⌝ }
+    ensures { λ f. ⌜ IsOf (now (s .entry)) told f ⌝ }
 {
-    trees(s, l.root, told, first, next, behind, class, same)
+    trees(s, 0, l.root, told, first, next, behind, class, same)
 }
 
 // The same for a row inside a type: the next sets of its model alone are made first, over first sets without End.
@@ -164,9 +176,9 @@ fn of_part(
     behind: &Sets,
     class: &Leads,
     same: &Sets,
-) -> bool
+) -> Outcome
     requires { ⌜ Told (now s) l told (now first) (now behind) (now class) (now same) ⌝ }
-    ensures { λ b. ⌜ IsOf (now (s .entry)) told b ⌝ }
+    ensures { λ f. ⌜ IsOf (now (s .entry)) told f ⌝ }
 {
     let mut top = [0u8; ROWS];
     let mut null = [0u8; ROWS];
@@ -197,9 +209,9 @@ fn of_row(
     behind: &Sets,
     class: &Leads,
     same: &Sets,
-) -> bool
+) -> Outcome
     requires { ⌜ Told (now s) l told (now first) (now behind) (now class) (now same) ⌝ }
-    ensures { λ b. ⌜ IsOf (now (s .entry)) told b ⌝ }
+    ensures { λ f. ⌜ IsOf (now (s .entry)) told f ⌝ }
 {
     let mut root = [0u8; ROWS];
     type_models::roots(s, l, &mut root);
@@ -239,11 +251,9 @@ pub fn fit(s: &[u8], told: usize) -> Answer
     ) {
         Soundness::Barren(x) => Answer::Barren(x),
         Soundness::Tie(t) => Answer::Tie(t),
-        Soundness::Done => {
-            if of_row(s, l, told, &first, &behind, &class, &same) {
-                return Answer::Done;
-            }
-            Answer::Unfit
-        }
+        Soundness::Done => match of_row(s, l, told, &first, &behind, &class, &same) {
+            Outcome::Fits => Answer::Done,
+            Outcome::Fault(row) => Answer::Unfit(row),
+        },
     }
 }

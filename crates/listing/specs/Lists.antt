@@ -1,13 +1,13 @@
 -- What the listing of a bundle is: question by question, the text that each answer adds; together `Listing.listing` of what `Listing.Tells` says of the bundle.
-use Prim.Native.Nat.{ℕ, zero, suc, _+_, _*_, _≤_, _<_}
+use Prim.Native.Nat.{ℕ, _+_, _≤_, _<_}
 use Prim.Native.Char.{code}
 use mathlib.Core.Path.{_≡_, refl, sym, ap, _∙_, subst}
-use mathlib.Core.Bool.{true, false}
+use mathlib.Core.Bool.{true}
 use mathlib.Core.List.{List, [], _∷_, _++_, append-assoc}
 use native.Mathlib.Omega.{arith}
-use lib.ListN.{length, take, length-append, length-take, length-replicate}
+use lib.ListN.{length, take, length-take, length-replicate}
 use Rattle.meaning.specs.Words.{rowsLent, wordAt}
-use Rattle.meaning.specs.Sheet.{scriptOf, need}
+use Rattle.meaning.specs.Sheet.{scriptOf}
 use Rattle.meaning.specs.Walk.{Verdict, gives, stops}
 use Rattle.meaning.specs.Walk as walk
 use Rattle.meaning.specs.Bundle.{framed, sheetIn}
@@ -46,9 +46,9 @@ use Rattle.meaning.specs.Reply.{
 }
 use Rattle.meaning.specs.Reply as meaning
 use Rattle.meaning.specs.Listing.{
-  codes,
   line,
   number,
+  carried,
   Told,
   loaded,
   check-ended,
@@ -71,7 +71,7 @@ use Rattle.listing.specs.Adds.{Adds, adds-as, adds-then}
 use Rattle.bundle.specs.declared.Copied.{Copied}
 use Rattle.bundle.specs.declared.Copied.the-variants.{Done, Block, Shape, Room}
 use Rattle.bundle.specs.Calls.{copiedOf, replied}
-use Rattle.bundle.specs.Reads.{largest, Held, read-block, read-shape, never-room}
+use Rattle.bundle.specs.Reads.{largest, read-block, read-shape, never-room}
 use Rattle.desk.specs.declared.Checked.{Checked as CheckAnswer}
 use Rattle.desk.specs.Checking.{checkedAnswer, checkedUnits, checkedReply}
 use Rattle.desk.specs.declared.Ran.{Ran as RunAnswer}
@@ -101,8 +101,8 @@ pub record RunTold (s old : List ℕ) (at : ℕ) (new : List ℕ) (l : Listed) :
   pub ends : l .number ≡ numbered answer
 
 pub data FitTold (s old : List ℕ) (at : ℕ) (new : List ℕ) (l : Listed) : Type 0 where
-  misfits : {r : Refusal} → Fitted s (scriptOf s .a) (refused r) → Adds (line "fit" (number r ∷ [])) old at new (l .bytes) → l .number ≡ number r → FitTold s old at new l
-  fits : {mid : List ℕ} {m : ℕ} → Fitted s (scriptOf s .a) done → Adds (line "fit" (0 ∷ [])) old at mid m → RunTold s mid m new l → FitTold s old at new l
+  misfits : {r : Refusal} → Fitted s (scriptOf s .a) (refused r) → Adds (line "fit" (number r ∷ carried r ∷ [])) old at new (l .bytes) → l .number ≡ number r → FitTold s old at new l
+  fits : {mid : List ℕ} {m : ℕ} → Fitted s (scriptOf s .a) done → Adds (line "fit" (0 ∷ 0 ∷ [])) old at mid m → RunTold s mid m new l → FitTold s old at new l
 
 pub data SheetTold (s old new : List ℕ) (l : Listed) : Type 0 where
   unsound : {r : Refusal} {u : ℕ} → Checked s lent-work (refused r) u → number r < 5 → Adds (line "load" (number r ∷ [])) old 0 new (l .bytes) → l .number ≡ number r → SheetTold s old new l
@@ -139,7 +139,7 @@ refusal-number depth = omega arith
 refusal-number (wide at) = omega arith
 refusal-number (mismatch at) = omega arith
 refusal-number (outside at) = omega arith
-refusal-number unfit = omega arith
+refusal-number (unfit x) = omega arith
 refusal-number (stuck at) = omega arith
 refusal-number scratch = omega arith
 refusal-number room = omega arith
@@ -147,6 +147,18 @@ refusal-number room = omega arith
 code-refused : (r : Refusal) → numbered (refused r) ≡ number r
 unfolding answer-code
 code-refused r = refl
+
+carried-refused : (r : Refusal) → answer-code (refused r) .a ≡ carried r
+unfolding answer-code
+carried-refused r = refl
+
+done-carries : answer-code done .a ≡ 0
+unfolding answer-code
+done-carries = refl
+
+-- fit's line by other numbers
+fit-as : {n n′ a a′ at end : ℕ} {old new : List ℕ} → n ≡ n′ → a ≡ a′ → Adds (line "fit" (n ∷ a ∷ [])) old at new end → Adds (line "fit" (n′ ∷ a′ ∷ [])) old at new end
+fit-as e o x = rw (e, o) at x
 
 pub is-done : (a : Answer) → numbered a ≡ 0 → a ≡ done
 is-done done e = refl
@@ -199,11 +211,11 @@ lists-told {t = t} w a e = record { what = t; tells = w; lists = a .says; ends =
 
 module _ {b old new : List ℕ} {l : Listed} (fr : framed b ≡ true) where
   ran-lists : {mid : List ℕ} {m u v root : ℕ} {after : List ℕ} → Checked (sheetIn b) lent-work done u → Fitted (sheetIn b) (scriptOf (sheetIn b) .a) done
-      → Adds (line "check" (0 ∷ u ∷ []) ++ line "fit" (0 ∷ [])) old 0 mid m
+      → Adds (line "check" (0 ∷ u ∷ []) ++ line "fit" (0 ∷ 0 ∷ [])) old 0 mid m
       → (a : Answer) → Ran (sheetIn b) lent-work lent-result a v root after → Adds (run-text a v root after) mid m new (l .bytes) → l .number ≡ numbered a → Lists b l new
   unfolding listing answer-code
   ran-lists {u = u} {v = v} {root = root} {after = after} c f x done r y e = lists-told {t = all-done u v root after} (told fr c f r)
-      (adds-as (sym (append-assoc (line "check" (0 ∷ u ∷ []) ++ line "fit" (0 ∷ [])) (line "run" (0 ∷ v ∷ root ∷ [])) (row-lines after root))) (adds-then x y)) e
+      (adds-as (sym (append-assoc (line "check" (0 ∷ u ∷ []) ++ line "fit" (0 ∷ 0 ∷ [])) (line "run" (0 ∷ v ∷ root ∷ [])) (row-lines after root))) (adds-then x y)) e
   ran-lists {u = u} {v = v} c f x (refused q) r y e = lists-told {t = run-ended u q v} (not-run fr c f r) (adds-then x y) e
 
   fit-lists : {mid : List ℕ} {m u : ℕ} → Checked (sheetIn b) lent-work done u → Adds (line "check" (0 ∷ u ∷ [])) old 0 mid m → FitTold (sheetIn b) mid m new l → Lists b l new
@@ -279,17 +291,21 @@ module _ {s : List ℕ} (c : FitAnswer) (x : Given) {row : ℕ} (told-row : row 
   unfolding scriptOf
   fit-said = rw told-row at h
 
-  pub fit-refused : {old new : List ℕ} {at end : ℕ} → (x .number ≡ 0 → ⊥) → Adds (line "fit" (x .number ∷ [])) old at new end → FitTold s old at new (record { bytes = end; number = x .number })
+  pub fit-refused : {old new : List ℕ} {at end : ℕ} → (x .number ≡ 0 → ⊥) → Adds (line "fit" (x .number ∷ x .a ∷ [])) old at new end
+      → FitTold s old at new (record { bytes = end; number = x .number })
   fit-refused n a =
       let is : x .number ≡ numbered (fitOf c) = ap (λ (k : Coded). k .number) coded in
       let z = is-refused (fitOf c) (λ e. n (is ∙ e)) in
       let e : x .number ≡ number (z .0) = is ∙ ap numbered (z .1) ∙ code-refused (z .0) in
-      misfits {r = z .0} (subst (λ (y : Answer). Fitted s (scriptOf s .a) y) (z .1) fit-said) (adds-as (ap (λ (k : ℕ). line "fit" (k ∷ [])) e) a) e
+      let o : x .a ≡ carried (z .0) = ap (λ (k : Coded). k .a) coded ∙ ap (λ (y : Answer). answer-code y .a) (z .1) ∙ carried-refused (z .0) in
+      misfits {r = z .0} (subst (λ (y : Answer). Fitted s (scriptOf s .a) y) (z .1) fit-said) (fit-as e o a) e
 
-  pub fit-done : {old mid new : List ℕ} {at m : ℕ} {l : Listed} → x .number ≡ 0 → Adds (line "fit" (x .number ∷ [])) old at mid m → RunTold s mid m new l → FitTold s old at new l
+  pub fit-done : {old mid new : List ℕ} {at m : ℕ} {l : Listed} → x .number ≡ 0 → Adds (line "fit" (x .number ∷ x .a ∷ [])) old at mid m → RunTold s mid m new l → FitTold s old at new l
   fit-done z a t =
       let is : x .number ≡ numbered (fitOf c) = ap (λ (k : Coded). k .number) coded in
-      fits (subst (λ (y : Answer). Fitted s (scriptOf s .a) y) (is-done (fitOf c) (sym is ∙ z)) fit-said) (adds-as (ap (λ (k : ℕ). line "fit" (k ∷ [])) z) a) t
+      let d = is-done (fitOf c) (sym is ∙ z) in
+      let o : x .a ≡ 0 = ap (λ (k : Coded). k .a) coded ∙ ap (λ (y : Answer). answer-code y .a) d ∙ done-carries in
+      fits (subst (λ (y : Answer). Fitted s (scriptOf s .a) y) d fit-said) (fit-as z o a) t
 
 module _ {s : List ℕ} (c : CheckAnswer) (x : Given) (u : ℕ) {w work : List ℕ} (lent : work ≡ lent-work)
     (h : CheckReply s work (checkedReply c w)) (coded : numbers x ≡ answer-code (checkedAnswer c)) (units : u ≡ checkedUnits c) where

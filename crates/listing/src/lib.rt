@@ -47,13 +47,13 @@ fn check_line(out: &mut [u8], number: usize, units: usize) -> usize
     crate::lines::fields2(out, end, number, units)
 }
 
-fn fit_line(out: &mut [u8], at: usize, number: usize) -> usize
-    requires { ⌜ at + 14 ≤ length (now out) ⌝ }
-    ensures { λ r. ⌜ Adds (line "fit" (number ∷ [])) (now (out .entry)) at (now (out .exit)) r ⌝ }
-    ensures { λ r. ⌜ r ≤ at + 14 ⌝ }
+fn fit_line(out: &mut [u8], at: usize, number: usize, row: usize) -> usize
+    requires { ⌜ at + 24 ≤ length (now out) ⌝ }
+    ensures { λ r. ⌜ Adds (line "fit" (number ∷ row ∷ [])) (now (out .entry)) at (now (out .exit)) r ⌝ }
+    ensures { λ r. ⌜ r ≤ at + 24 ⌝ }
 {
     let end = crate::lines::word(out, at, b"fit");
-    crate::lines::fields1(out, end, number)
+    crate::lines::fields2(out, end, number, row)
 }
 
 fn run_line(out: &mut [u8], at: usize, number: usize, units: usize) -> usize
@@ -96,13 +96,13 @@ fn run_told(s: &[u8], out: &mut [u8], at: usize) -> Listed
 
 // The line of fit against A, and what follows.
 fn fit_told(s: &[u8], out: &mut [u8], at: usize) -> Listed
-    requires { ⌜ at + 409648 ≤ length (now out) ⌝ }
+    requires { ⌜ at + 409658 ≤ length (now out) ⌝ }
     ensures { λ r. ⌜ FitTold (now (s .entry)) (now (out .entry)) at (now (out .exit)) r ⌝ }
 {
     let a = words::word_at(s, 7);
     let code = coded::fitted(fit::fit(s, a));
     let number = code.number;
-    let bytes = fit_line(out, at, number);
+    let bytes = fit_line(out, at, number, code.a);
     if number != 0 {
         return Listed { bytes, number };
     }
@@ -111,7 +111,7 @@ fn fit_told(s: &[u8], out: &mut [u8], at: usize) -> Listed
 
 // The listing of a sheet: its load or its check, and what follows.
 fn sheet_told(s: &[u8], out: &mut [u8]) -> Listed
-    requires { ⌜ 409674 ≤ length (now out) ⌝ }
+    requires { ⌜ 409684 ≤ length (now out) ⌝ }
     ensures { λ r. ⌜ SheetTold (now (s .entry)) (now (out .entry)) (now (out .exit)) r ⌝ }
 {
     let mut work = working_rows();
@@ -133,7 +133,7 @@ fn sheet_told(s: &[u8], out: &mut [u8]) -> Listed
 
 // The listing of a bundle, into a buffer that has room for any.
 pub fn listing(bundle: &[u8], out: &mut [u8]) -> Listed
-    requires { ⌜ 409674 ≤ length (now out) ⌝ }
+    requires { ⌜ 409684 ≤ length (now out) ⌝ }
     ensures { λ r. ⌜ Lists (now (bundle .entry)) r (now (out .exit)) ⌝ }
 {
     let mut tables = [0u8; 44704];

@@ -17,6 +17,7 @@ pub mod Trees
 pub mod Wired
 pub mod Sure
 pub mod Apart
+pub mod Users
 pub mod Passes
 pub mod Scoped
 pub mod Agree

@@ -11,6 +11,7 @@ pub mod Run
 pub mod Check
 pub mod Shape
 pub mod Places
+pub mod Faults
 pub mod Bundle
 pub mod Reply
 pub mod Listing

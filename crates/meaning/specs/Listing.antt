@@ -1,11 +1,12 @@
--- The listing that the program `apply` prints (document 01, "Worked on paper"): question, number (0 is done), units (none for fit); run
--- adds the root; then each row and its four words.
+-- The listing that the program `apply` prints: question, number (0 is done), units, but for fit the row of the fault (0 is none, or the
+-- top);
+-- run adds the root; then each row and its four words.
 -- A refusal ends the listing with its line, without root; "load N" for 1 to 4. Lines end in a line feed.
-use Prim.Native.Nat.{ℕ, zero, suc, _+_, _*_, _/_, _%_, _≤_, _<_}
+use Prim.Native.Nat.{ℕ, zero, suc, _+_, _*_, _/_, _%_}
 use Prim.Native.String.{String, [] as end, _∷_ as _then_}
 use Prim.Native.Char.{code}
 use mathlib.Core.Path.{_≡_}
-use mathlib.Core.Bool.{Bool, true, false}
+use mathlib.Core.Bool.{true, false}
 use mathlib.Core.List.{List, [], _∷_, _++_}
 use lib.Dec.{ltb}
 use lib.ListN.{replicate}
@@ -13,7 +14,7 @@ use Rattle.meaning.specs.Limits.{row-words, program-work, program-result
 use Rattle.meaning.specs.Words.{wordAt}
 use Rattle.meaning.specs.Sheet.{scriptOf}
 use Rattle.meaning.specs.Bundle.{framed, sheetIn}
-use Rattle.meaning.specs.Reply.{Refusal, block, unfit, Answer, done, refused, Coded, refusal-code, Loads, Checked, Fitted, Ran}
+use Rattle.meaning.specs.Reply.{Refusal, block, done, refused, refusal-code, Loads, Checked, Fitted, Ran}
 
 -- ---- text
 
@@ -47,6 +48,10 @@ pub data Told : Type 0 where
 abbrev pub number : Refusal → ℕ
 number r = refusal-code r .number
 
+-- the row that Unfit carries
+abbrev pub carried : Refusal → ℕ
+carried r = refusal-code r .a
+
 -- the lines of n result rows, row and four words
 unfoldable pub row-lines : List ℕ → ℕ → List ℕ
 row-lines b zero = []
@@ -56,9 +61,9 @@ row-lines b (suc n) = row-lines b n ++ digits 8 (suc n)
 unfoldable pub listing : Told → List ℕ
 listing (loaded r) = line "load" (number r ∷ [])
 listing (check-ended r u) = line "check" (number r ∷ u ∷ [])
-listing (fit-ended u r) = line "check" (0 ∷ u ∷ []) ++ line "fit" (number r ∷ [])
-listing (run-ended u r v) = line "check" (0 ∷ u ∷ []) ++ line "fit" (0 ∷ []) ++ line "run" (number r ∷ v ∷ [])
-listing (all-done u v root after) = line "check" (0 ∷ u ∷ []) ++ line "fit" (0 ∷ []) ++ line "run" (0 ∷ v ∷ root ∷ [])
+listing (fit-ended u r) = line "check" (0 ∷ u ∷ []) ++ line "fit" (number r ∷ carried r ∷ [])
+listing (run-ended u r v) = line "check" (0 ∷ u ∷ []) ++ line "fit" (0 ∷ 0 ∷ []) ++ line "run" (number r ∷ v ∷ [])
+listing (all-done u v root after) = line "check" (0 ∷ u ∷ []) ++ line "fit" (0 ∷ 0 ∷ []) ++ line "run" (0 ∷ v ∷ root ∷ [])
     ++ row-lines after root
 
 -- what the program lends

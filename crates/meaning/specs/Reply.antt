@@ -2,16 +2,16 @@
 -- "Refusals by number").
 -- The order of refusals stands here once: 1, 2, 3, 4, then 12, then the walk, 13 last. Apply goes through the check's order, then 10, then
 -- the run's from 12.
-use Prim.Native.Nat.{ℕ, zero, suc, _+_, _*_, _<_, _≤_}
+use Prim.Native.Nat.{ℕ, zero, _+_, _*_, _<_, _≤_}
 use mathlib.Core.Path.{_≡_}
 use mathlib.Core.Bool.{Bool, true, false}
-use mathlib.Core.List.{List, [], _∷_, _++_}
+use mathlib.Core.List.{List, [], _++_}
 use lib.Dec.{leb}
 use lib.ListN.{length, drop}
 use Rattle.meaning.specs.Limits.{row-words}
 use Rattle.meaning.specs.Tests.{inTable}
 use Rattle.meaning.specs.Words.{rowsLent, zeroed}
-use Rattle.meaning.specs.Sheet.{Script, Grove, Sheet, need, sheetOf, scriptOf, groveOf}
+use Rattle.meaning.specs.Sheet.{need, sheetOf, scriptOf, groveOf}
 use Rattle.meaning.specs.Forest.{Forest, forestOf, forestSize, resultRows, rowBytes}
 use Rattle.meaning.specs.Types.{Ty, Of, declared, namesIn}
 use Rattle.meaning.specs.Walk.{Place, Stop, Verdict, gives, stops, Settles, Settled, settle}
@@ -19,6 +19,7 @@ use Rattle.meaning.specs.Walk as walk
 use Rattle.meaning.specs.Run.{run-walk}
 use Rattle.meaning.specs.Check.{Judged, check-walk}
 use Rattle.meaning.specs.Shape.{shapely}
+use Rattle.meaning.specs.Faults.{FaultOf}
 use Rattle.meaning.specs.Places.{Tie, Untied, LowestBarren, NoneBarren}
 use Rattle.meaning.specs.Bundle.{framed, sheetIn, bundleOf, blocksFor, block-bytes}
 
@@ -30,7 +31,7 @@ pub data Refusal : Type 0 where
   tie : ℕ → ℕ → Refusal
   fuel depth : Refusal
   wide mismatch outside : Place → Refusal
-  unfit : Refusal
+  unfit : ℕ → Refusal
   stuck : Place → Refusal
   scratch room : Refusal
 
@@ -56,7 +57,7 @@ refusal-code depth = code 6 0 0
 refusal-code (wide at) = code 7 (at .row) (at .flag)
 refusal-code (mismatch at) = code 8 (at .row) (at .flag)
 refusal-code (outside at) = code 9 (at .row) (at .flag)
-refusal-code unfit = code 10 0 0
+refusal-code (unfit x) = code 10 x 0
 refusal-code (stuck at) = code 11 (at .row) (at .flag)
 refusal-code scratch = code 12 0 0
 refusal-code room = code 13 0 0
@@ -95,15 +96,15 @@ pub data Checked (s work : List ℕ) : Answer → ℕ → Type 0 where
       → Settles (Judged (namesIn (scriptOf s))) (check-walk (scriptOf s)) (sheetOf s .checkFuel) v left
       → verdict-answer v ≡ a → units + left ≡ sheetOf s .checkFuel → Checked s work a units
 
--- ---- fit: is the sheet's forest of the type at row t
+-- ---- fit: is the sheet's forest of the type at row t; if not, where is its first fault (Theorems/Faults: it is not exactly if there is
+-- one)
 
 pub data Fitted (s : List ℕ) (t : ℕ) : Answer → Type 0 where
   no-row : inTable (scriptOf s .types) t ≡ false → Fitted s t (refused shape)
   unsound : {r : Refusal} → inTable (scriptOf s .types) t ≡ true → Loads s (refused r) → Fitted s t (refused r)
   fits : inTable (scriptOf s .types) t ≡ true → Loads s done → Of (namesIn (scriptOf s)) (declared (scriptOf s) t) (forestOf (groveOf s))
       → Fitted s t done
-  misfits : inTable (scriptOf s .types) t ≡ true → Loads s done
-      → (Of (namesIn (scriptOf s)) (declared (scriptOf s) t) (forestOf (groveOf s)) → ⊥) → Fitted s t (refused unfit)
+  misfits : {x : ℕ} → inTable (scriptOf s .types) t ≡ true → Loads s done → FaultOf s t x → Fitted s t (refused (unfit x))
 
 -- ---- run: the edited forest
 

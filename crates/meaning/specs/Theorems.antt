@@ -13,5 +13,7 @@ pub mod Replies
 pub mod Steady
 pub mod Trip
 pub mod Places
+pub mod Parts
+pub mod Faults
 pub mod Sound
 pub mod Within

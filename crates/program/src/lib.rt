@@ -9,10 +9,10 @@ ghost use Prim.Native.Nat.{_<_};
 ghost use lib.ListN.{length};
 
 // Room for any listing: three lines, and 8,192 of at most 50 bytes.
-fn room() -> [u8; 409674]
-    ensures { λ r. ⌜ 409674 ≡ length r ⌝ }
+fn room() -> [u8; 409684]
+    ensures { λ r. ⌜ 409684 ≡ length r ⌝ }
 {
-    [0; 409674]
+    [0; 409684]
 }
 
 // Writes the listing of a bundle: 0 where all is done, 1 where something is refused, 2 where it cannot be written.

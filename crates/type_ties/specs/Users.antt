@@ -3,23 +3,23 @@ use Prim.Native.Nat.{ℕ, zero, suc, _+_, _≤_, _<_}
 use mathlib.Core.Path.{_≡_, refl, _∙_}
 use mathlib.Core.Bool.{true, false, _&&_, _||_}
 use mathlib.Core.List.{List}
-use mathlib.Core.Logic.{_⊎_, inl, inr}
-use native.Mathlib.Decide.{decLe}
+use mathlib.Core.Logic.{inl, inr}
 use native.Mathlib.Omega.{arith}
 use lib.Dec.{eqb}
 use lib.ListN.{set, replicate}
 use borrow.Author.Tests.{eqb-true, eq-eqb}
-use Rattle.meaning.specs.Tests.{some, total, inTable}
+use Rattle.meaning.specs.Tests.{some, inTable}
 use Rattle.meaning.specs.Sheet.{Cells, Procedure, scriptOf, sheetOf}
-use Rattle.meaning.specs.Kinds.{TypeRow, typeForm}
-use Rattle.meaning.specs.Shape.{shapely, hit, own, type-users, procedure-hits}
+use Rattle.meaning.specs.Kinds.{TypeRow}
+use Rattle.meaning.specs.Shape.{shapely, hit, own, procedure-hits}
 use Rattle.meaning.specs.Places.{modelForm, modelAt, is-declared, is-content}
 use Rattle.meaning.specs.Laws.Bools.{or-left, or-right, or-cases, and-left, and-right, either}
-use Rattle.meaning.specs.Laws.Tests.{in-table, table-low, table-high, some-at, some-of, total-at, total-both, total-some}
+use Rattle.meaning.specs.Laws.Tests.{in-table, table-low, table-high, some-of, total-at, total-both}
 use Rattle.meaning.specs.Laws.Wired.{has}
+use Rattle.meaning.specs.Laws.Users.{outer, inner, used-once, user-of}
 use Rattle.meaning.specs.Laws.Apart.{Side, view, type-hits, hit-one, side-hit, AtomKind, a-text, a-bool, a-label, a-name, atom-kind, PlaceKind}
 use Rattle.type_barren.specs.Flags.{flag-kept, unset}
-use Rattle.meaning.specs.Laws.Shaped.{cells, Part, few-types, one-user}
+use Rattle.meaning.specs.Laws.Shaped.{Part, few-types}
 use Rattle.type_places.specs.Tables.{rowForm, modelOf, Free}
 use Rattle.type_places.specs.Firsts.{model-row, side-part}
 use Rattle.type_places.specs.Sheets.{shaped-rows}
@@ -27,43 +27,12 @@ use Rattle.type_models.specs.Roots.{isRoot, Rooted}
 
 -- ---- the words of a row that are row j
 
-one-hit : (p j : ℕ) → 1 ≤ hit j p → p ≡ j
-one-hit p j h = elim (either (eqb p j)) [ inl e ↦ eqb-true p j e | inr e ↦ (let z = rw e at h in absurd (omega arith)) ]
-
 held-hit : (c : Cells) (j : ℕ) → c .kind ≡ 4 → c .q ≡ j → 1 ≤ type-hits j c
 unfolding own
 held-hit c j k h = rw k (omega (arith, hit-one (c .q) j h))
 
-either-hit : (p q j : ℕ) → 1 ≤ hit j p + hit j q + 0 → (p ≡ j) ⊎ (q ≡ j)
-either-hit p q j h = elim (decLe 1 (hit j p)) [ yes l ↦ inl (one-hit p j l) | no l ↦ inr (one-hit q j (omega arith)) ]
-
-hit-row : (k p q r j : ℕ) → 1 ≤ type-hits j (cells k p q r) → Side (typeForm (cells k p q r)) j ⊎ ((k ≡ 4) × (q ≡ j))
-unfolding Side own
-hit-row zero p q r j h = absurd (omega arith)
-hit-row (suc zero) p q r j h = absurd (omega arith)
-hit-row (suc (suc zero)) p q r j h = absurd (omega arith)
-hit-row (suc (suc (suc zero))) p q r j h = absurd (omega arith)
-hit-row (suc (suc (suc (suc zero)))) p q r j h = inr (refl, one-hit q j (omega arith))
-hit-row (suc (suc (suc (suc (suc zero))))) p q r j h = inl (either-hit p q j h)
-hit-row (suc (suc (suc (suc (suc (suc zero)))))) p q r j h = inl (either-hit p q j h)
-hit-row (suc (suc (suc (suc (suc (suc (suc zero))))))) p q r j h = inl (one-hit p j (omega arith))
-hit-row (suc (suc (suc (suc (suc (suc (suc (suc zero)))))))) p q r j h = absurd (omega arith)
-hit-row (suc (suc (suc (suc (suc (suc (suc (suc (suc k))))))))) p q r j h = absurd (omega arith)
-
 module _ (s : List ℕ) (e : shapely s ≡ true) where
-  -- how often row j is named by what is no type row
-  abbrev outer : ℕ → ℕ
-  outer j = total (λ x. hit j (scriptOf s .nameRow x)) (scriptOf s .names) + total (λ c. procedure-hits (sheetOf s) j (scriptOf s .procedureRow c)) (scriptOf s .procedures) + hit j (scriptOf s .a)
-      + hit j (scriptOf s .b)
-
-  abbrev inner : ℕ → ℕ
-  inner j = total (λ i. type-hits j (scriptOf s .typeRow i)) (scriptOf s .types)
-
-  used-once : (j : ℕ) → inTable (scriptOf s .types) j ≡ true → inner j + outer j ≡ 1
-  unfolding type-users sheetOf
-  used-once j h = omega (arith, one-user s e j h)
-
-  declared-hit : (j : ℕ) → is-declared (scriptOf s) j ≡ true → 1 ≤ outer j
+  declared-hit : (j : ℕ) → is-declared (scriptOf s) j ≡ true → 1 ≤ outer s j
   declared-hit j d = elim (or-cases (eqb (scriptOf s .a) j || eqb (scriptOf s .b) j || some (λ x. eqb (scriptOf s .nameRow x) j) (scriptOf s .names)) _ d) [
     | inl d ↦ elim (or-cases (eqb (scriptOf s .a) j || eqb (scriptOf s .b) j) _ d) [
       | inl d ↦ elim (or-cases (eqb (scriptOf s .a) j) _ d) [
@@ -111,8 +80,8 @@ module _ (s : List ℕ) (e : shapely s ≡ true) where
       part : Part i j
       part = side-part (shaped-rows s e) i j x
 
-      one : inner j + outer j ≡ 1
-      one = used-once j (in-table (scriptOf s .types) j (part .low) (omega (arith, part .lower, table-high (scriptOf s .types) i h)))
+      one : inner s j + outer s j ≡ 1
+      one = used-once s e j (in-table (scriptOf s .types) j (part .low) (omega (arith, part .lower, table-high (scriptOf s .types) i h)))
 
       here : 1 ≤ type-hits j (scriptOf s .typeRow i)
       here = side-hit (scriptOf s .typeRow i) _ (view (scriptOf s .typeRow i)) j x
@@ -143,49 +112,6 @@ module _ (s : List ℕ) (e : shapely s ≡ true) where
 
   -- ---- from each row up to a root
 
-  declared-by : (j : ℕ) → 1 ≤ outer j → is-declared (scriptOf s) j ≡ true
-  declared-by j h = elim (decLe 1 (hit j (scriptOf s .a))) [
-    | yes l ↦ or-left _ (or-left _ (or-left _ (eq-eqb (scriptOf s .a) j (one-hit (scriptOf s .a) j l))))
-    | no l1 ↦ elim (decLe 1 (hit j (scriptOf s .b))) [
-      | yes l ↦ or-left _ (or-left _ (or-right (eqb (scriptOf s .a) j) (eq-eqb (scriptOf s .b) j (one-hit (scriptOf s .b) j l))))
-      | no l2 ↦ elim (decLe 1 (total (λ x. hit j (scriptOf s .nameRow x)) (scriptOf s .names))) [
-        | yes l ↦ (let x = total-some (λ x. hit j (scriptOf s .nameRow x)) (scriptOf s .names) l in
-            or-left _ (or-right (eqb (scriptOf s .a) j || eqb (scriptOf s .b) j)
-            (some-at (λ x. eqb (scriptOf s .nameRow x) j) (scriptOf s .names) (x .0) (x .1) (x .2) (eq-eqb (scriptOf s .nameRow (x .0)) j (one-hit (scriptOf s .nameRow (x .0)) j (x .3))))))
-        | no l3 ↦ (let x = total-some (λ c. procedure-hits (sheetOf s) j (scriptOf s .procedureRow c)) (scriptOf s .procedures) (omega arith) in
-            or-right (eqb (scriptOf s .a) j || eqb (scriptOf s .b) j || some (λ x. eqb (scriptOf s .nameRow x) j) (scriptOf s .names))
-            (some-at (λ c. eqb (scriptOf s .procedureRow c .first) j || eqb (scriptOf s .procedureRow c .second) j || eqb (scriptOf s .procedureRow c .input) j || eqb
-            (scriptOf s .procedureRow c .output) j) (scriptOf s .procedures) (x .0) (x .1) (x .2) (signs (scriptOf s .procedureRow (x .0)) (x .3))))
-      ]
-    ]
-  ]
-    where
-      signs : (c : Procedure) → 1 ≤ procedure-hits (sheetOf s) j c → eqb (c .first) j || eqb (c .second) j || eqb (c .input) j || eqb (c .output) j ≡ true
-      signs c h = elim (decLe 1 (hit j (c .first))) [
-        | yes l ↦ or-left _ (or-left _ (or-left _ (eq-eqb (c .first) j (one-hit (c .first) j l))))
-        | no l4 ↦ elim (decLe 1 (hit j (c .second))) [
-          | yes l ↦ or-left _ (or-left _ (or-right (eqb (c .first) j) (eq-eqb (c .second) j (one-hit (c .second) j l))))
-          | no l5 ↦ elim (decLe 1 (hit j (c .input))) [
-            | yes l ↦ or-left _ (or-right (eqb (c .first) j || eqb (c .second) j) (eq-eqb (c .input) j (one-hit (c .input) j l)))
-            | no l6 ↦ or-right (eqb (c .first) j || eqb (c .second) j || eqb (c .input) j) (eq-eqb (c .output) j (one-hit (c .output) j (omega arith)))
-          ]
-        ]
-      ]
-
-  -- a row is a root, or a side of a row
-  pub user-of : (j : ℕ) → inTable (scriptOf s .types) j ≡ true → (isRoot s j ≡ true) ⊎ ((i : ℕ) × (inTable (scriptOf s .types) i ≡ true) × Side (rowForm (scriptOf s .typeRow) i) j)
-  user-of j h = elim (decLe 1 (inner j)) [
-    | yes l ↦ (let x = total-some (λ i. type-hits j (scriptOf s .typeRow i)) (scriptOf s .types) l in by (x .0) (x .1) (x .2) (hit-row _ _ _ _ j (x .3)))
-    | no l ↦ inl (or-left _ (declared-by j (omega (arith, used-once j h))))
-  ]
-    where
-      by : (i : ℕ) → 1 ≤ i → i ≤ scriptOf s .types → Side (rowForm (scriptOf s .typeRow) i) j ⊎ ((scriptOf s .typeRow i .kind ≡ 4) × (scriptOf s .typeRow i .q ≡ j)) → (isRoot s j ≡ true)
-          ⊎ ((i : ℕ) × (inTable (scriptOf s .types) i ≡ true) × Side (rowForm (scriptOf s .typeRow) i) j)
-      by i p q (inl x) = inr (i, in-table (scriptOf s .types) i p q, x)
-      by i p q (inr (k, z)) = inl (or-right (is-declared (scriptOf s) j)
-          (some-at (λ i. eqb (scriptOf s .typeRow i .kind) 4 && eqb (scriptOf s .typeRow i .q) j) (scriptOf s .types) i p q
-          (rw (eq-eqb (scriptOf s .typeRow i .kind) 4 k) (eq-eqb (scriptOf s .typeRow i .q) j z))))
-
   -- what a side has, the row has
   side-has : (i j a : ℕ) → Side (rowForm (scriptOf s .typeRow) i) j → has (modelOf s j) a ≡ true → has (modelOf s i) a ≡ true
   unfolding Side has modelForm
@@ -212,7 +138,7 @@ module _ (s : List ℕ) (e : shapely s ≡ true) where
   up i j x r = record { root = r .root; in-types = r .in-types; is-root = r .is-root; keeps = λ a y. r .keeps a (side-has i j a x y) }
 
   climb : (j : ℕ) → inTable (scriptOf s .types) j ≡ true → ((i : ℕ) → inTable (scriptOf s .types) i ≡ true → j < i → Above i) → Above j
-  climb j h again = elim (user-of j h) [
+  climb j h again = elim (user-of s e j h) [
     | inl r ↦ record { root = j; in-types = h; is-root = r; keeps = λ a y. y }
     | inr x ↦ up (x .0) j (x .2) (again (x .0) (x .1) (side-part (shaped-rows s e) (x .0) j (x .2) .lower))
   ]

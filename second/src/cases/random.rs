@@ -2,6 +2,7 @@
 //! their focus, and forests that fit or nearly do.
 
 mod edits;
+pub mod unfit;
 
 use crate::answers::Judged;
 use crate::check::output_type;
@@ -62,6 +63,11 @@ impl<'a> Maker<'a> {
         let a = self.input();
         let (main, _) = self.statement(&a, &mut Vec::new(), size);
         let forest = self.forest(&a, size);
+        self.finished(a, main, forest)
+    }
+
+    /// The script of these, with all that was declared, and an output type for it.
+    fn finished(mut self, a: Ty, main: St, forest: Forest) -> Script {
         let mut script = Script {
             names: self.names.clone(),
             procedures: self.procedures.clone(),

@@ -12,14 +12,14 @@ enum-known-answer c = search needs
 checked-requires : tie.Need-checked-requires
 checked-requires c κs = search needs
 
-enum-told : tie.Need-enum-told
-enum-told c = search needs
+enum-known-answer-2 : tie.Need-enum-known-answer-2
+enum-known-answer-2 c = search needs
 
 code-requires : tie.Need-code-requires
 code-requires c κs = search needs
 
-enum-known-answer-2 : tie.Need-enum-known-answer-2
-enum-known-answer-2 c = search needs
+enum-known-answer-3 : tie.Need-enum-known-answer-3
+enum-known-answer-3 c = search needs
 
 ran-requires : tie.Need-ran-requires
 ran-requires c κs = search needs
@@ -29,10 +29,10 @@ returns c = c .checked .ensures ∙ sym (ap (λ a. answer-code (appliedAnswer a)
 
 returns-2 : tie.Need-returns-2
 unfolding answer-code refusal-code
-returns-2 c = c .code .ensures ∙ sym (ap (λ a. answer-code (appliedAnswer a)) (c .before .enum-told .given .1))
+returns-2 c = c .code .ensures ∙ sym (ap (λ a. answer-code (appliedAnswer a)) (c .before .before .answer2 .given .1))
 
 returns-3 : tie.Need-returns-3
-returns-3 c = c .ran .ensures ∙ sym (ap (λ a. answer-code (appliedAnswer a)) (c .before .before .answer2 .given .1))
+returns-3 c = c .ran .ensures ∙ sym (ap (λ a. answer-code (appliedAnswer a)) (c .before .before .answer3 .given .1))
 
 pub applied-spec : {M : Type 1} → statement M
 applied-spec =
@@ -40,9 +40,9 @@ applied-spec =
     (tie.spec
     enum-known-answer
     checked-requires
-    enum-told
-    code-requires
     enum-known-answer-2
+    code-requires
+    enum-known-answer-3
     ran-requires
     returns
     returns-2

@@ -30,8 +30,8 @@ enum-known-answer-2 c = search needs
 code-requires-4 : tie.Need-code-requires-4
 code-requires-4 c κs = search needs
 
-enum-told-3 : tie.Need-enum-told-3
-enum-told-3 c = search needs
+enum-known-answer-3 : tie.Need-enum-known-answer-3
+enum-known-answer-3 c = search needs
 
 code-requires-5 : tie.Need-code-requires-5
 code-requires-5 c κs = search needs
@@ -54,7 +54,7 @@ returns-4 c = c .code4 .ensures ∙ sym (ap (λ a. answer-code (fitOf a)) (c .be
 
 returns-5 : tie.Need-returns-5
 unfolding answer-code refusal-code
-returns-5 c = c .code5 .ensures ∙ sym (ap (λ a. answer-code (fitOf a)) (c .before .enum-told3 .given .1))
+returns-5 c = c .code5 .ensures ∙ sym (ap (λ a. answer-code (fitOf a)) (c .before .before .answer3 .given .1))
 
 pub fitted-spec : {M : Type 1} → statement M
 fitted-spec =
@@ -68,7 +68,7 @@ fitted-spec =
     code-requires-3
     enum-known-answer-2
     code-requires-4
-    enum-told-3
+    enum-known-answer-3
     code-requires-5
     returns
     returns-2

@@ -3,13 +3,12 @@
 use mathlib.Core.Path.{refl, ap}
 use denote.Ref.{now}
 use Rattle.meaning.specs.Reply.{unsound, fits, misfits}
-use Rattle.meaning.specs.Laws.Bools.{not-both}
 use Rattle.sheet.specs.Whole.{whole-shaped}
 use Rattle.type_places.specs.Tables.{clear-zeros}
 use Rattle.type_ties.specs.Sound.{soundOf}
 use Rattle.type_tables.specs.Lent.{lent-done}
 use Rattle.fit.proofs.Whole.{not-shaped, is-shaped, no-told, past-told, is-told, loads-as}
-use Rattle.fit.specs.Fitting.{told-lent}
+use Rattle.fit.specs.Fitting.{told-lent, found-as}
 use borrow.Author.Needs.{needs}
 use Rattle.fit.proofs.fit.Statement.{statement}
 use Rattle.fit.proofs.fit.Tie as tie
@@ -44,17 +43,23 @@ enum-told c = search needs
 of-row-requires : tie.Need-of-row-requires
 of-row-requires c κs = let the-lay-out = c .before .before .before .before .before .before .before .before .before .before .before .before .before .before .before .lay-out in let the-args = c .before .before .before .before .before .before .before .before .before .before .before .before .before .before .before .before .before .before .before .args in let the-enum-told = c .before .before .before .before .enum-told in let the-judge = c .before .before .before .before .before .before .judge in told-lent (the-lay-out .ensures) (is-told (now (the-args .s)) (the-args .told) (the-lay-out .ensures) (c .before .before .before .before .before .before .before .before .before .before .before .before .before .before .if2 .left) (c .before .before .before .before .before .before .before .before .before .before .before .before .if3 .left)) (loads-as (ap soundOf (the-enum-told .given .1)) (the-judge .ensures .loads)) (lent-done (the-enum-told .given .1) (the-judge .ensures))
 
+enum-told-2 : tie.Need-enum-told-2
+enum-told-2 c = search needs
+
+enum-known-row : tie.Need-enum-known-row
+enum-known-row c = search needs
+
 returns-4 : tie.Need-returns-4
-returns-4 c = let the-args = c .before .before .before .before .before .before .before .before .before .before .before .before .before .before .before .before .before .before .before .before .before .args in fits (is-told (now (the-args .s)) (the-args .told) (c .before .before .before .before .before .before .before .before .before .before .before .before .before .before .before .before .before .lay-out .ensures) (c .before .before .before .before .before .before .before .before .before .before .before .before .before .before .before .before .if2 .left) (c .before .before .before .before .before .before .before .before .before .before .before .before .before .before .if3 .left)) (loads-as (ap soundOf (c .before .before .before .before .before .before .enum-told .given .1)) (c .before .before .before .before .before .before .before .before .judge .ensures .loads)) (c .before .of-row .ensures .0 (c .if4 .taken))
+returns-4 c = let the-args = c .before .before .before .before .before .before .before .before .before .before .before .before .before .before .before .before .args in unsound (is-told (now (the-args .s)) (the-args .told) (c .before .before .before .before .before .before .before .before .before .before .before .before .lay-out .ensures) (c .before .before .before .before .before .before .before .before .before .before .before .if2 .left) (c .before .before .before .before .before .before .before .before .before .if3 .left)) (loads-as (ap soundOf (c .before .x .given .1)) (c .before .before .before .judge .ensures .loads))
 
 returns-5 : tie.Need-returns-5
-returns-5 c = let the-args = c .before .before .before .before .before .before .before .before .before .before .before .before .before .before .before .before .args in unsound (is-told (now (the-args .s)) (the-args .told) (c .before .before .before .before .before .before .before .before .before .before .before .before .lay-out .ensures) (c .before .before .before .before .before .before .before .before .before .before .before .if2 .left) (c .before .before .before .before .before .before .before .before .before .if3 .left)) (loads-as (ap soundOf (c .before .x .given .1)) (c .before .before .before .judge .ensures .loads))
+returns-5 c = let the-args = c .before .before .before .before .before .before .before .before .before .before .before .before .before .before .before .before .args in unsound (is-told (now (the-args .s)) (the-args .told) (c .before .before .before .before .before .before .before .before .before .before .before .before .lay-out .ensures) (c .before .before .before .before .before .before .before .before .before .before .before .if2 .left) (c .before .before .before .before .before .before .before .before .before .if3 .left)) (loads-as (ap soundOf (c .before .t .given .1)) (c .before .before .before .judge .ensures .loads))
 
 returns-6 : tie.Need-returns-6
-returns-6 c = let the-args = c .before .before .before .before .before .before .before .before .before .before .before .before .before .before .before .before .args in unsound (is-told (now (the-args .s)) (the-args .told) (c .before .before .before .before .before .before .before .before .before .before .before .before .lay-out .ensures) (c .before .before .before .before .before .before .before .before .before .before .before .if2 .left) (c .before .before .before .before .before .before .before .before .before .if3 .left)) (loads-as (ap soundOf (c .before .t .given .1)) (c .before .before .before .judge .ensures .loads))
+returns-6 c = let the-args = c .before .before .before .before .before .before .before .before .before .before .before .before .before .before .before .before .before .before .before .before .before .before .args in fits (is-told (now (the-args .s)) (the-args .told) (c .before .before .before .before .before .before .before .before .before .before .before .before .before .before .before .before .before .before .lay-out .ensures) (c .before .before .before .before .before .before .before .before .before .before .before .before .before .before .before .before .before .if2 .left) (c .before .before .before .before .before .before .before .before .before .before .before .before .before .before .before .if3 .left)) (loads-as (ap soundOf (c .before .before .before .before .before .before .before .enum-told .given .1)) (c .before .before .before .before .before .before .before .before .before .judge .ensures .loads)) (found-as (c .enum-told2 .given .1) (c .before .before .of-row .ensures))
 
 returns-7 : tie.Need-returns-7
-returns-7 c = let the-args = c .before .before .before .before .before .before .before .before .before .before .before .before .before .before .before .before .before .before .before .before .before .args in misfits (is-told (now (the-args .s)) (the-args .told) (c .before .before .before .before .before .before .before .before .before .before .before .before .before .before .before .before .before .lay-out .ensures) (c .before .before .before .before .before .before .before .before .before .before .before .before .before .before .before .before .if2 .left) (c .before .before .before .before .before .before .before .before .before .before .before .before .before .before .if3 .left)) (loads-as (ap soundOf (c .before .before .before .before .before .before .enum-told .given .1)) (c .before .before .before .before .before .before .before .before .judge .ensures .loads)) (λ x. not-both (c .before .of-row .ensures .1 x) (c .if4 .left))
+returns-7 c = let the-args = c .before .before .before .before .before .before .before .before .before .before .before .before .before .before .before .before .before .before .before .before .before .before .before .args in misfits (is-told (now (the-args .s)) (the-args .told) (c .before .before .before .before .before .before .before .before .before .before .before .before .before .before .before .before .before .before .before .lay-out .ensures) (c .before .before .before .before .before .before .before .before .before .before .before .before .before .before .before .before .before .before .if2 .left) (c .before .before .before .before .before .before .before .before .before .before .before .before .before .before .before .before .if3 .left)) (loads-as (ap soundOf (c .before .before .before .before .before .before .before .before .enum-told .given .1)) (c .before .before .before .before .before .before .before .before .before .before .judge .ensures .loads)) (found-as (c .before .row .given .1) (c .before .before .before .of-row .ensures))
 
 pub fit-spec : {M : Type 1} → statement M
-fit-spec = tie.close (tie.spec shapely-requires returns lay-out-requires returns-2 returns-3 judge-requires enum-known-x enum-known-t enum-told of-row-requires returns-4 returns-5 returns-6 returns-7)
+fit-spec = tie.close (tie.spec shapely-requires returns lay-out-requires returns-2 returns-3 judge-requires enum-known-x enum-known-t enum-told of-row-requires enum-told-2 enum-known-row returns-4 returns-5 returns-6 returns-7)

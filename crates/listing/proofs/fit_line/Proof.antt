@@ -13,15 +13,15 @@ slice-aggregate-word c = search needs
 word-requires : tie.Need-word-requires
 word-requires c κs = search needs
 
-fields1-requires : tie.Need-fields1-requires
-fields1-requires c κs = search needs
+fields2-requires : tie.Need-fields2-requires
+fields2-requires c κs = search needs
 
 same-length : tie.Need-same-length
 same-length c = search needs
 
 returns : tie.Need-returns
 unfolding codes
-returns c = let the-word = c .before .before .before .before .before .before .word in let the-fields1 = c .before .before .fields1 in (adds-then (the-word .ensures) (the-fields1 .ensures .0), omega (arith, the-word .ensures .ends, the-fields1 .ensures .1))
+returns c = let the-word = c .before .before .before .before .before .before .word in let the-fields2 = c .before .before .fields2 in (adds-then (the-word .ensures) (the-fields2 .ensures .0), omega (arith, the-word .ensures .ends, the-fields2 .ensures .1))
 
 pub fit-line-spec : {M : Type 1} → statement M
-fit-line-spec = tie.close (tie.spec slice-aggregate-word word-requires fields1-requires same-length returns)
+fit-line-spec = tie.close (tie.spec slice-aggregate-word word-requires fields2-requires same-length returns)

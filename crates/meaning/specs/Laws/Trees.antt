@@ -8,6 +8,9 @@ use native.Mathlib.Omega.{arith}
 use borrow.Author.Tests.{leb-true, ltb-true}
 use Rattle.meaning.specs.Tests.{inTable}
 use Rattle.meaning.specs.Sheet.{Cells, Grove, Sheet, groveOf, sheetOf}
+use Rattle.meaning.specs.Forest.{Tree, Forest, treeForm}
+use Rattle.meaning.specs.Places.{headAt, contentAt, start, Fits, Admits}
+use Rattle.meaning.specs.Faults.{treeHead}
 use Rattle.meaning.specs.Shape.{shapely, forestUses, wordOk, wordsOk}
 use Rattle.meaning.specs.Laws.Bools.{and-left, and-right, not-both}
 use Rattle.meaning.specs.Laws.Tests.{in-table, table-high}
@@ -64,3 +67,32 @@ module _ (s : List ℕ) (e : shapely s ≡ true) where
 
   pub grove-low : LowRows (G .row) (G .rows)
   grove-low = low-rows (G .rows) (omega arith)
+
+-- a tree fits a place exactly if they have one head and its children are of the place's content
+module _ (byte : ℕ → ℕ) (c : Cells) (r : ℕ) (f : Forest) (row : ℕ → Cells) (nameRow : ℕ → ℕ) (b : ℕ) where
+  abbrev tree : Tree
+  tree = treeForm byte c f
+
+  abbrev Filled : Type 0
+  Filled = Admits row nameRow f (contentAt row nameRow b) (start (contentAt row nameRow b))
+
+  pub fits-head : Sort c r → Fits row nameRow tree b → headAt row nameRow b ≡ treeHead tree
+  unfolding Fits
+  fits-head (a-text e) = rw e (λ x. x)
+  fits-head (a-bool (inl e)) = rw e (λ x. x)
+  fits-head (a-bool (inr e)) = rw e (λ x. x)
+  fits-head (a-node e p q) = rw e (λ x. x .0)
+
+  pub fits-inside : Sort c r → Fits row nameRow tree b → c .kind ≡ 4 → Filled
+  unfolding Fits
+  fits-inside (a-text e) = λ x k. absurd (omega arith)
+  fits-inside (a-bool (inl e)) = λ x k. absurd (omega arith)
+  fits-inside (a-bool (inr e)) = λ x k. absurd (omega arith)
+  fits-inside (a-node e p q) = rw e (λ x k. x .1)
+
+  pub head-fits : Sort c r → headAt row nameRow b ≡ treeHead tree → (c .kind ≡ 4 → Filled) → Fits row nameRow tree b
+  unfolding Fits
+  head-fits (a-text e) = rw e (λ x y. x)
+  head-fits (a-bool (inl e)) = rw e (λ x y. x)
+  head-fits (a-bool (inr e)) = rw e (λ x y. x)
+  head-fits (a-node e p q) = rw e (λ x y. (x, y refl))

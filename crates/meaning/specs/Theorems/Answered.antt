@@ -1,4 +1,4 @@
--- Every input has a reply, so nothing said of replies is empty: whether tables pass 2 to 4 is decided here, inclusion and being of a type in Within/Decided,
+-- Every input has a reply, so nothing said of replies is empty: whether tables pass 2 to 4 is decided here, inclusion in Within/Decided, being of a type in Faults,
 -- and a walk whose questions are decided settles (Asked).
 use Prim.Native.Nat.{ℕ, zero, suc, _+_, _-_, _≤_, _<_}
 use mathlib.Core.Path.{_≡_, refl}
@@ -11,8 +11,8 @@ use lib.Dec.{eqb}
 use Rattle.meaning.specs.Tests.{some, inTable}
 use Rattle.meaning.specs.Words.{rowsLent, zeroed}
 use Rattle.meaning.specs.Sheet.{scriptOf, groveOf, sheetOf}
-use Rattle.meaning.specs.Forest.{Forest, forestOf, forestSize}
-use Rattle.meaning.specs.Types.{Named, declared, namesIn}
+use Rattle.meaning.specs.Forest.{Forest, forestSize}
+use Rattle.meaning.specs.Types.{Named, namesIn}
 use Rattle.meaning.specs.Walk.{Verdict, gives, stops, Unasked}
 use Rattle.meaning.specs.Walk as walk
 use Rattle.meaning.specs.Run.{run-walk}
@@ -32,7 +32,7 @@ use Rattle.meaning.specs.Laws.Wired.{has}
 use Rattle.meaning.specs.Laws.Apart.{first-has, follows-has, model-below, shaped-lower}
 use Rattle.meaning.specs.Laws.Walk.{within-purse, settle-settles}
 use Rattle.meaning.specs.Laws.Decide.{search}
-use Rattle.meaning.specs.Theorems.Within.Decided.{of-decided}
+use Rattle.meaning.specs.Theorems.Faults.{of-or-fault}
 use Rattle.meaning.specs.Theorems.Asked.{check-settles}
 use Rattle.meaning.specs.Theorems.Replies.{tells-applied}
 
@@ -217,9 +217,9 @@ module _ (s : List ℕ) (t : ℕ) where
     where
       go : inTable (scriptOf s .types) t ≡ true → (a : Answer) → Loads s a → FitAnswered
       go e (refused r) l = fitted (refused r) (Fitted.unsound e l)
-      go e done l = elim (of-decided (namesIn (scriptOf s)) (declared (scriptOf s) t) (forestOf (groveOf s))) [
-        | inl o ↦ fitted done (fits e l o)
-        | inr n ↦ fitted (refused unfit) (misfits e l n)
+      go e done (sound d n u) = elim (of-or-fault s d t e) [
+        | inl o ↦ fitted done (fits e (sound d n u) o)
+        | inr w ↦ fitted (refused (unfit (w .0))) (misfits e (sound d n u) (w .1))
       ]
 
 -- ---- apply's

@@ -1,4 +1,5 @@
--- Demand 2 where a caller sees it, on replies: what done and each refusal of check and run say of the figures, that a verdict stays under more fuel, and that apply's order is one.
+-- Demand 2 where a caller sees it, on replies: what done and each refusal of check and run say of the figures, and of fit of the type, that a verdict stays under more fuel, and that apply's order
+-- is one.
 use Prim.Native.Nat.{ℕ, _+_, _*_, _-_, _≤_, _<_}
 use mathlib.Core.Path.{_≡_, refl, sym, _∙_, ap, ap₂, subst}
 use mathlib.Core.Bool.{true}
@@ -8,10 +9,11 @@ use native.Mathlib.Omega.{arith}
 use lib.ListN.{length, take, drop}
 use lib.Seq.{take-append-seam}
 use Rattle.meaning.specs.Limits.{most-depth, most-fuel, row-words}
+use Rattle.meaning.specs.Tests.{inTable}
 use Rattle.meaning.specs.Words.{rowsLent, zeroed}
 use Rattle.meaning.specs.Sheet.{Script, scriptOf, groveOf, sheetOf}
 use Rattle.meaning.specs.Forest.{Forest, forestOf, forestSize, resultRows, rowBytes}
-use Rattle.meaning.specs.Types.{Ty, of-empty, namesIn}
+use Rattle.meaning.specs.Types.{Ty, Of, of-empty, declared, namesIn}
 use Rattle.meaning.specs.Walk.{Place, Verdict, gives, stops, Settles, Unasked, due}
 use Rattle.meaning.specs.Walk as walk
 use Rattle.meaning.specs.Run.{run-walk}
@@ -19,11 +21,11 @@ use Rattle.meaning.specs.Check.{Judged, check-walk}
 use Rattle.meaning.specs.Figures.{Takes, Accepts}
 use Rattle.meaning.specs.Charges.{takes-charge, takes-levels}
 use Rattle.meaning.specs.Reply.{Refusal, block, shape, barren, tie, fuel, depth, wide, mismatch, outside, unfit, stuck, scratch, room, Answer, done, refused, verdict-answer}
-use Rattle.meaning.specs.Reply.{Loads, misshapen, is-barren, is-tied, sound, Checked, walked, Fitted, Ran, ended, no-room, gave, given, run-settled}
+use Rattle.meaning.specs.Reply.{Loads, misshapen, is-barren, is-tied, sound, Checked, walked, Fitted, no-row, misfits, Ran, ended, no-room, gave, given, run-settled}
 use Rattle.meaning.specs.Reply.{Applied, unchecked, unfitted, applied, Reply, ApplyReply, OfBundle, unframed, opened}
 use Rattle.meaning.specs.Bundle.{framed, sheetIn}
 use Rattle.meaning.specs.Listing.{Told, loaded, check-ended, fit-ended, run-ended, all-done, Tells, not-framed, not-loaded, not-checked, not-fit, not-run, told, lent-work, lent-result}
-use Rattle.meaning.specs.Laws.Bools.{never}
+use Rattle.meaning.specs.Laws.Bools.{never, not-both}
 use Rattle.meaning.specs.Laws.Walk.{Other, fuel-all, settle-settles, settles-settle, due-short, due-paid}
 use Rattle.meaning.specs.Laws.Sure.{Spent, Found, Ended}
 use Rattle.meaning.specs.Theorems.ExactRun.{run-exactly}
@@ -32,6 +34,7 @@ use Rattle.meaning.specs.Theorems.ReadBack.{result-length, row-bytes-len
 use Rattle.meaning.specs.Theorems.Steady.{verdict-more, same-walk, walked-more, alike-script, alike-grove, withCheckFuel, withRunFuel, check-load-stays, run-load-stays}
 use Rattle.meaning.specs.Theorems.Steady.{run-alike, check-alike, run-fuel-is, check-fuel-is}
 use Rattle.meaning.specs.Theorems.Single.{one-load, one-run}
+use Rattle.meaning.specs.Theorems.Faults.{fault-bars}
 use Rattle.meaning.specs.Theorems.Sound.{checked-accepts, stuck-self-not-passed}
 use Rattle.meaning.specs.Theorems.Worked.Stated.{runs, checks}
 use Rattle.meaning.specs.Theorems.Refuted.Calls.{Check, MeetsCheck, work-rows}
@@ -162,7 +165,7 @@ Spares (refused depth) = Unit {0}
 Spares (refused (wide at)) = Unit {0}
 Spares (refused (mismatch at)) = ⊥
 Spares (refused (outside at)) = ⊥
-Spares (refused unfit) = ⊥
+Spares (refused (unfit x)) = ⊥
 Spares (refused (stuck at)) = ⊥
 Spares (refused scratch) = Unit {0}
 Spares (refused room) = ⊥
@@ -190,6 +193,19 @@ pub not-passes-stuck : (f : Check) → MeetsCheck f → PassesAll f → ⊥
 unfolding twice-stuck runs checks
 not-passes-stuck f meets w = stuck-self-not-passed {s = twice-stuck} (meets twice-stuck lent-work) of-empty (stuck-twice lent-work lent-result (work-rows 4096 refl))
     (w twice-stuck lent-work ok-twice-stuck (work-rows 4096 refl))
+
+-- ---- fit
+
+abbrev OfRow : List ℕ → ℕ → Type 0
+OfRow s t = Of (namesIn (scriptOf s)) (declared (scriptOf s) t) (forestOf (groveOf s))
+
+-- a fit is done exactly if the forest is of the type, and Unfit, with whatever row, exactly if it is not; asked of a type row, on tables that pass 2 to 4
+pub fit-exactly : {s : List ℕ} {t : ℕ} {a : Answer} → Fitted s t a → inTable (scriptOf s .types) t ≡ true → Loads s done
+    → (a ≡ done ↔ OfRow s t) × (((x : ℕ) × (a ≡ refused (unfit x))) ↔ (OfRow s t → ⊥))
+fit-exactly (no-row f) e l = absurd (not-both e f)
+fit-exactly {s} (Fitted.unsound f k) e l = never (cc (one-load s k l))
+fit-exactly (Fitted.fits f k o) e l = ((λ h. o, λ h. refl), (λ z. never (cc (z .1)), λ n. absurd (n o)))
+fit-exactly {s} {t} (misfits {x = x} f k w) e (sound d b u) = let n = fault-bars s d t e u w in ((λ h. never (cc h), λ o. absurd (n o)), (λ z. n, λ z. (x, refl)))
 
 -- how a check of an accepted script ends, of which `price` units fall due: done for just these, if the purse holds them; else Fuel, with all of it spent. Or Depth or Wide ends it
 pub data Costing (price purse : ℕ) : Answer → ℕ → Type 0 where
@@ -245,7 +261,7 @@ Firm (refused depth) = Unit {0}
 Firm (refused (wide at)) = Unit {0}
 Firm (refused (mismatch at)) = Unit {0}
 Firm (refused (outside at)) = Unit {0}
-Firm (refused unfit) = Unit {0}
+Firm (refused (unfit x)) = Unit {0}
 Firm (refused (stuck at)) = Unit {0}
 Firm (refused scratch) = ⊥
 Firm (refused room) = ⊥

@@ -4,17 +4,20 @@ use mathlib.Core.Path.{_≡_, refl, sym, _∙_, ap, subst}
 use mathlib.Core.Bool.{Bool, true, false}
 use mathlib.Core.List.{List}
 use native.Mathlib.Omega.{arith}
-use Rattle.meaning.specs.Sheet.{scriptOf}
-use Rattle.meaning.specs.Forest.{Forest, forestSize}
-use Rattle.meaning.specs.Types.{namesIn}
+use Rattle.meaning.specs.Tests.{inTable}
+use Rattle.meaning.specs.Sheet.{scriptOf, groveOf}
+use Rattle.meaning.specs.Forest.{Forest, forestOf, forestSize}
+use Rattle.meaning.specs.Types.{Of, declared, namesIn}
 use Rattle.meaning.specs.Walk.{gives}
 use Rattle.meaning.specs.Check.{Judged}
 use Rattle.meaning.specs.Places.{Tie, LowestBarren, tied}
+use Rattle.meaning.specs.Faults.{FaultOf}
 use Rattle.meaning.specs.Bundle.{framed, sheetIn}
 use Rattle.meaning.specs.Reply.{
   Refusal,
   barren,
   tie,
+  unfit,
   block,
   Answer,
   done,
@@ -53,6 +56,7 @@ use Rattle.meaning.specs.Listing.{Told, loaded, check-ended, fit-ended, 
 use Rattle.meaning.specs.Laws.Bools.{not-both}
 use Rattle.meaning.specs.Laws.Walk.{one-verdict}
 use Rattle.meaning.specs.Theorems.ExactCheck.{judged-single}
+use Rattle.meaning.specs.Theorems.Faults.{fault-bars, one-fault}
 
 -- ---- at most one has P, and steps
 
@@ -136,6 +140,10 @@ module _ (s work : List ℕ) where
       (sym e ∙ ap verdict-answer (o .0) ∙ e′, omega (arith, o .1))
 
 module _ (s : List ℕ) (t : ℕ) where
+  -- what has a fault is not of the type
+  apart-fit : {x : ℕ} → inTable (scriptOf s .types) t ≡ true → Loads s done → FaultOf s t x → Of (namesIn (scriptOf s)) (declared (scriptOf s) t) (forestOf (groveOf s)) → ⊥
+  apart-fit e (sound d n u) w = fault-bars s d t e u w
+
   pub one-fit : {a b : Answer} → Fitted s t a → Fitted s t b → a ≡ b
   one-fit (no-row e) (no-row f) = refl
   one-fit (no-row e) (Fitted.unsound f k) = absurd (not-both f e)
@@ -148,11 +156,11 @@ module _ (s : List ℕ) (t : ℕ) where
   one-fit (fits e l o) (no-row f) = absurd (not-both e f)
   one-fit (fits e l o) (Fitted.unsound f k) = clash s k l
   one-fit (fits e l o) (fits f k p) = refl
-  one-fit (fits e l o) (misfits f k p) = absurd (p o)
+  one-fit (fits e l o) (misfits f k p) = absurd (apart-fit e l p o)
   one-fit (misfits e l o) (no-row f) = absurd (not-both e f)
   one-fit (misfits e l o) (Fitted.unsound f k) = clash s k l
-  one-fit (misfits e l o) (fits f k p) = absurd (o p)
-  one-fit (misfits e l o) (misfits f k p) = refl
+  one-fit (misfits e l o) (fits f k p) = absurd (apart-fit e l o p)
+  one-fit (misfits e (sound d n u) o) (misfits f k p) = ap (λ x. refused (unfit x)) (one-fault s d t e u o p)
 
 module _ (s work result : List ℕ) where
   -- a run that is refused by its walk gives nothing

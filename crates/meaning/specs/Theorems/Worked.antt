@@ -146,7 +146,7 @@ whole = s1 4096 4096
 abbrev pub Printed : Type 0
 Printed = Tells (bundleOf whole) (all-done 38 33 7 (bytesOf (joined seven) ++ drop 56 lent-result))
     × ((rest : List ℕ) → listing (all-done 38 33 7 (bytesOf (joined seven) ++ rest))
-    ≡ codes "check 0 38\nfit 0\nrun 0 33 7\n1 4 4 0 0\n2 4 3 0 0\n3 4 2 0 2\n4 4 3 0 3\n5 4 3 0 4\n6 4 2 0 5\n7 4 1 6 1\n")
+    ≡ codes "check 0 38\nfit 0 0\nrun 0 33 7\n1 4 4 0 0\n2 4 3 0 0\n3 4 2 0 2\n4 4 3 0 3\n5 4 3 0 4\n6 4 2 0 5\n7 4 1 6 1\n")
 
 -- what the theorems assume, met together by one sheet: it passes 2 to 4, check passes it, its forest is of A
 pub record Met (s work : List ℕ) : Type 0 where

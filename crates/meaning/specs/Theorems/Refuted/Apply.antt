@@ -3,20 +3,18 @@ use Prim.Native.Nat.{ℕ, _+_, _<_}
 use mathlib.Core.Path.{_≡_, refl}
 use mathlib.Core.Bool.{false}
 use mathlib.Core.List.{List, [], _∷_}
-use native.Mathlib.Omega.{arith}
 use borrow.Author.Tests.{leb-true}
 use lib.Dec.{eqb}
 use lib.ListN.{replicate}
 use Rattle.meaning.specs.Words.{bytesOf, rowsLent}
 use Rattle.meaning.specs.Sheet.{sheetOf, scriptOf, groveOf}
-use Rattle.meaning.specs.Forest.{Forest, nil}
-use Rattle.meaning.specs.Types.{Named, Of, of-label}
-use Rattle.meaning.specs.Reply.{unfit, scratch, room, Refusal, Answer, done, refused, Loads, Checked, Fitted, misfits, Ran, no-room, Applied, unfitted, applied}
+use Rattle.meaning.specs.Faults.{ends}
+use Rattle.meaning.specs.Reply.{unfit, scratch, room, Answer, done, refused, Loads, Checked, Fitted, misfits, Ran, no-room, Applied, unfitted, applied}
 use Rattle.meaning.specs.Listing.{lent-work}
 use Rattle.meaning.specs.Theorems.Single.{one-apply}
 use Rattle.meaning.specs.Theorems.Worked.{worked, edited, seven, whole, run-whole}
 use Rattle.meaning.specs.Theorems.Worked.Sheets.{Row, tr, row, joined, s1}
-use Rattle.meaning.specs.Theorems.Worked.Stated.{tables, shape, ties, runs, checks, a, tip, Checks, loads, answers, in-itself}
+use Rattle.meaning.specs.Theorems.Worked.Stated.{tables, shape, ties, runs, checks, Checks, loads, answers, in-itself}
 use Rattle.meaning.specs.Theorems.Refuted.Calls.{Run, MeetsApply, codes, two-answers, two-numbers, differ, two-bytes, work-rows, skipping}
 use Rattle.meaning.specs.Theorems.Refuted.Run.{Unzeroed, RoomWrites, RoomClears}
 
@@ -33,7 +31,7 @@ RanFor amount f = (s work result : List ℕ) → f s work result .answer ≡ don
 
 -- too few working rows for the run go before Unfit
 abbrev pub ScratchBeforeUnfit : Run → Type 0
-ScratchBeforeUnfit f = (s work result : List ℕ) (u : ℕ) → Checked s work done u → Fitted s (scriptOf s .a) (refused unfit) → rowsLent work < groveOf s .rows + sheetOf s .runFuel
+ScratchBeforeUnfit f = (s work result : List ℕ) (u x : ℕ) → Checked s work done u → Fitted s (scriptOf s .a) (refused (unfit x)) → rowsLent work < groveOf s .rows + sheetOf s .runFuel
     → f s work result .answer ≡ refused scratch
 
 -- ---- the sheets, and what is computed of each
@@ -65,18 +63,15 @@ check-lean : Checks lean done 1
 unfolding lean checks
 check-lean = answers ok-lean 0 (in-itself refl refl, tt) refl refl refl
 
-no-tree : (names : ℕ → Named) {g : Forest} → Of names (tip a) g → g ≡ nil → ⊥
-no-tree names (of-label x) e = let z : _≡_ {A = ℕ} 0 1 = cc in absurd (omega arith)
-
-fit-lean : Fitted lean 2 (refused unfit)
-unfolding lean runs checks
-fit-lean = misfits refl ok-lean (λ o. no-tree _ o refl)
+fit-lean : Fitted lean 2 (refused (unfit 0))
+unfolding lean runs ties
+fit-lean = misfits refl ok-lean (ends refl refl)
 
 checked-lean : Checked lean nines done 1
 unfolding lean tables
 checked-lean = check-lean nines (leb-true 1 1 refl)
 
-apply-lean : Applied lean nines [] (refused unfit) 1 0 0 []
+apply-lean : Applied lean nines [] (refused (unfit 0)) 1 0 0 []
 unfolding lean tables
 apply-lean = unfitted checked-lean fit-lean
 
@@ -113,11 +108,11 @@ module _ (f : Run) (meets : MeetsApply f) where
   not-apply-clears w = two-bytes six-rows (replicate 48 0) [] [] (on-six .1) (w whole lent-work six-rows (on-six .0)) refl
 
   -- a working row of nines: it is 0 after Unfit
-  pub not-apply-unzeroed : Unzeroed unfit f → ⊥
+  pub not-apply-unzeroed : Unzeroed (unfit 0) f → ⊥
   unfolding differ
   not-apply-unzeroed w = two-bytes (replicate 8 0) nines [] [] (meets lean nines [] .clear) (w lean nines [] (said apply-lean .0)) refl
 
   -- it is enough for the check and not for the run: () is not of a, which is said, and no Scratch
   pub not-scratch-before-unfit : ScratchBeforeUnfit f → ⊥
   unfolding lean tables codes
-  not-scratch-before-unfit w = two-answers (said apply-lean .0) (w lean nines [] 1 checked-lean fit-lean (leb-true 2 4096 refl)) refl
+  not-scratch-before-unfit w = two-answers (said apply-lean .0) (w lean nines [] 1 0 checked-lean fit-lean (leb-true 2 4096 refl)) refl

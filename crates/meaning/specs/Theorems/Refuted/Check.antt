@@ -121,7 +121,7 @@ unfolding skipping
 contents = skipping (tr 1 0 0 ∷ tr 4 2 1 ∷ tr 4 1 2 ∷ tr 1 0 0 ∷ tr 4 3 4 ∷ tr 4 1 5 ∷ []) 3 6 (row 4 2 0 0 ∷ row 4 1 1 0 ∷ []) 4096 4096
 
 module _ (names : ℕ → Named) where
-  pub b-not-of-c : {g : Forest} → Of names (Ty.label a (tip c)) g → g ≡ only (Tree.node a (only (leaf b))) → ⊥
+  b-not-of-c : {g : Forest} → Of names (Ty.label a (tip c)) g → g ≡ only (Tree.node a (only (leaf b))) → ⊥
   b-not-of-c (of-label (of-label x)) e = let z : _≡_ {A = ℕ} 3 2 = cc in absurd (omega arith)
 
   a-not-of-empty : {g : Forest} → Of names Ty.empty g → g ≡ only (leaf a) → ⊥

@@ -4,12 +4,10 @@ use mathlib.Core.Path.{_≡_, refl, sym, _∙_}
 use mathlib.Core.Bool.{Bool, true, false, _&&_, cond}
 use mathlib.Core.List.{List}
 use mathlib.Core.Logic.{_⊎_, inl, inr}
-use native.Mathlib.Decide.{ℕ-discrete}
 use native.Mathlib.Omega.{arith}
 use lib.Dec.{leb, ltb}
 use Rattle.meaning.specs.Sheet.{Script, scriptOf}
-use Rattle.meaning.specs.Forest.{Tree, Forest, nil, cons}
-use Rattle.meaning.specs.Types.{Ty, Named, Of, Head, Head-discrete, atomOf, Within, declared, namesIn}
+use Rattle.meaning.specs.Types.{Ty, Named, Head, atomOf, Within, declared, namesIn}
 use Rattle.meaning.specs.Places.{same-head}
 use Rattle.meaning.specs.Shape.{shapely}
 use Rattle.meaning.specs.Reply.{done, Loads, sound}
@@ -18,13 +16,13 @@ use Rattle.meaning.specs.Laws.Tests.{table-high}
 use Rattle.meaning.specs.Laws.Barren.{Over, Name, contents-over}
 use Rattle.meaning.specs.Laws.Wired.{has}
 use Rattle.meaning.specs.Laws.Apart.{first-has, follows-has, model-below, shaped-lower}
-use Rattle.meaning.specs.Laws.Pairs.{Side, Suits, Admitted, Lives, Free, Included, Comes}
+use Rattle.meaning.specs.Laws.Pairs.{Side, Lives, Free, Included, Comes}
 use Rattle.meaning.specs.Laws.Points.{heads-differ, has-first, has-follows, Family, Point, begin, beyond, pointSide, Sort, sort-text, sort-bool, sort-label}
-use Rattle.meaning.specs.Laws.Decide.{search, Finite, sumBelow, below-le, below-lt, included-decided}
+use Rattle.meaning.specs.Laws.Decide.{Finite, sumBelow, below-le, below-lt, included-decided}
 use Rattle.meaning.specs.Theorems.Within.Sides.{Found, Sought, within-included}
 use Rattle.meaning.specs.Theorems.Within.Rows.{typesOf, pointsOf, startOf, Wanted, wanted-each, sought-row}
 use Rattle.meaning.specs.Theorems.Within.Whole.{atomsIn, numbered, atomAt, atomHead, atomContent, allTypes, atom-over, numbered-range, typeSide}
-use Rattle.meaning.specs.Theorems.Within.Whole.{typeStart, Plain, plain-place, Just, just, plain-each, sought-plain, type-exact, found-over}
+use Rattle.meaning.specs.Theorems.Within.Whole.{typeStart, Plain, plain-place, Just, just, plain-each, sought-plain, found-over}
 
 -- ---- the points of finitely many types
 
@@ -293,58 +291,3 @@ module _ (s : List ℕ) (loads : Loads s done) (σ : Ty) (over : Over (Name (scr
           let f = found-over s shape fertile σ over in let q = sought-plain N τ p in
           by-included f q (points-decided (allTypes N) (allTypes N) (keysOf N (S .names) (contents-over s shape) σ) (plainOf N τ p) (λ τ. suc (atomsIn τ)) (λ k. 2)
           (found-known N (S .names) (contents-over s shape) σ) (plain-known N τ p) σ τ (key-top, over) just (f .lives (typeSide N) (typeStart N τ)) (q .free (typeSide N) (typeStart N σ)))
-
--- ---- and whether a forest is of a type is decided, for any type
-
-abbrev Either : Type 0 → Type 0
-Either A = A ⊎ (A → ⊥)
-
-by-dec : {A : Type 0} → Dec A → Either A
-by-dec (yes a) = inl a
-by-dec (no n) = inr n
-
-true? : (b : Bool) → Either (b ≡ true)
-true? true = inl refl
-true? false = inr (λ e. never (cc))
-
-both? : {A B : Type 0} → Either A → Either B → Either (A × B)
-both? (inl a) (inl b) = inl (a, b)
-both? (inl a) (inr n) = inr (λ p. n (p .1))
-both? (inr n) q = inr (λ p. n (p .0))
-
-some? : (P Q R : ℕ → Type 0) (n : ℕ) → ((a : ℕ) → Either (P a)) → ((a : ℕ) → Either (Q a)) → ((a : ℕ) → Either (R a)) → ((a : ℕ) → P a → a < n) → Either ((a : ℕ) × P a × Q a × R a)
-some? P Q R n p q r low = elim (search (λ a. P a × (Q a × R a)) (λ a. P a × (Q a × R a) → ⊥) (λ a. both? (p a) (both? (q a) (r a))) n) [
-  | inl h ↦ inl (h .0, h .2 .0, h .2 .1 .0, h .2 .1 .1)
-  | inr h ↦ inr (λ k. h (k .0) (low (k .0) (k .1)) (k .1, (k .2, k .3)))
-]
-
-module _ (names : ℕ → Named) where
-  -- the places that may stand at a point are few
-  abbrev Low : Point Ty → Type 0
-  Low x = (a : ℕ) → typeSide names .has x a ≡ true → a < suc (atomsIn (x .key))
-
-  begin-low : (τ : Ty) → Low (begin (allTypes names) τ)
-  begin-low τ a e = omega (arith, numbered-range 0 τ a (first-has (numbered 0 τ) a (has-first (numbered 0 τ) a e)) .1)
-
-  beyond-low : (τ : Ty) (c : ℕ) → Low (beyond (allTypes names) τ c)
-  beyond-low τ c a e = omega (arith, numbered-range 0 τ a (follows-has (numbered 0 τ) c a (has-follows (numbered 0 τ) c a e)) .1)
-
-  mutual
-    unfolding Suits Admitted
-
-    suits? : (t : Tree) (x : Point Ty) (a : ℕ) → Suits (typeSide names) t x a ⊎ (Suits (typeSide names) t x a → ⊥)
-    suits? (Tree.text w) x a = by-dec (Head-discrete ℕ-discrete (allTypes names .head (x .key) a) Head.text)
-    suits? (Tree.bool b) x a = by-dec (Head-discrete ℕ-discrete (allTypes names .head (x .key) a) Head.bool)
-    suits? (Tree.node n f) x a = both? (by-dec (Head-discrete ℕ-discrete (allTypes names .head (x .key) a) (Head.label n)))
-        (admitted? f (begin (allTypes names) (allTypes names .content (x .key) a)) (begin-low (allTypes names .content (x .key) a)))
-
-    admitted? : (f : Forest) (x : Point Ty) → Low x → Admitted (typeSide names) f x ⊎ (Admitted (typeSide names) f x → ⊥)
-    admitted? nil x low = true? (x .set 0)
-    admitted? (cons t f) x low = some? _ _ _ (suc (atomsIn (x .key))) (λ a. true? (typeSide names .has x a)) (λ a. suits? t x a)
-        (λ a. admitted? f (beyond (allTypes names) (x .key) a) (beyond-low (x .key) a)) low
-
-  pub of-decided : (τ : Ty) (f : Forest) → Of names τ f ⊎ (Of names τ f → ⊥)
-  of-decided τ f = elim (admitted? f (begin (allTypes names) τ) (begin-low τ)) [
-    | inl a ↦ inl (type-exact names τ f .0 a)
-    | inr n ↦ inr (λ o. n (type-exact names τ f .1 o))
-  ]

@@ -190,7 +190,7 @@ module _ (s : List ℕ) (shape : shapely s ≡ true) where
   S = scriptOf s
 
   -- the content of a label row is a row of the table, and a content
-  label-content : (i : ℕ) → S .typeRow i .kind ≡ 4 → (inTable (S .types) (S .typeRow i .q) ≡ true) × (is-content S (S .typeRow i .q) ≡ true)
+  pub label-content : (i : ℕ) → S .typeRow i .kind ≡ 4 → (inTable (S .types) (S .typeRow i .q) ≡ true) × (is-content S (S .typeRow i .q) ≡ true)
   label-content i e =
       let h = kind-in s i 3 e in
       let l = table-low (S .types) i h in

@@ -1,0 +1,5 @@
+labels a, b
+from a[], b[] to a[], b[]
+script skip
+forest
+  a[]
