@@ -1,6 +1,6 @@
 //! Random and damaged bundles, the same each time for a seed.
 
-mod random;
+pub(crate) mod random;
 pub mod special;
 
 use crate::answers::{answers, deep, Judged, Lent, RESULT_ROWS, WORKING_ROWS};

@@ -10,7 +10,7 @@
 //! | Bundles | `bundles` (what is refused; the bytes are in the library `notation`) |
 //!
 //! The library `notation` has the text people write, and the bytes of bundles. `cases` makes random bundles and `faults` damaged ones, from
-//! trees of `scripts` and numbers of `dice`; `compare` runs another program on them.
+//! trees of `scripts` and numbers of `dice`; `compare` runs another program on them. `splits` splits descriptions in two.
 
 pub mod answers;
 pub mod bundles;
@@ -28,6 +28,7 @@ pub mod run;
 pub mod scope;
 pub mod scripts;
 pub mod shape;
+pub mod splits;
 pub mod types;
 pub mod unfit;
 

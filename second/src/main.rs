@@ -3,7 +3,7 @@
 use notation::{assemble_all, line_and_column, Source, Spare};
 use second::answers::{answers, apply_listing, RESULT_ROWS, WORKING_ROWS};
 use second::cases::Cases;
-use second::{bundles, cases, compare};
+use second::{bundles, cases, compare, splits};
 use std::fmt::Write as _;
 use std::io::{Read, Write};
 use std::path::Path;
@@ -16,7 +16,7 @@ struct Command {
     does: &'static [&'static str],
 }
 
-const COMMANDS: [Command; 8] = [
+const COMMANDS: [Command; 9] = [
     Command {
         word: "apply",
         arguments: "",
@@ -57,6 +57,11 @@ const COMMANDS: [Command; 8] = [
         word: "selfcheck",
         arguments: "SEED COUNT",
         does: &["holds the same cases against what is promised of passed scripts, and against more fuel"],
+    },
+    Command {
+        word: "splits",
+        arguments: "SEED COUNT",
+        does: &["splits so many random descriptions in two, runs both halves and the whole, and compares them"],
     },
     Command {
         word: "compare",
@@ -128,6 +133,10 @@ fn go(words: &[&str]) -> Result<u8, Trouble> {
         ["selfcheck", seed, count] => {
             let report = cases::self_check(number(seed)?, number(count)?)?;
             print(report.as_bytes())
+        }
+        ["splits", seed, count] => {
+            let tally = splits::compare(number(seed)?, number(count)?)?;
+            print(tally.to_string().as_bytes())
         }
         ["compare", rest @ ..] => {
             let report = compare::compare(rest).map_err(Trouble::Usage)?;

@@ -21,6 +21,7 @@ fn every_command_has_its_help() {
         "cases",
         "faults",
         "selfcheck",
+        "splits",
         "compare",
     ];
     assert_eq!(all.matches("\n  second ").count(), words.len());

@@ -11,6 +11,8 @@ pub mod ReadBack
 pub mod ExactRun
 pub mod Replies
 pub mod Steady
+pub mod Split
+pub mod Desks
 pub mod Trip
 pub mod Places
 pub mod Parts
