@@ -1,5 +1,7 @@
 // The answers to the bundle on standard input. Two optional arguments: how many working and result rows are lent; without them as many
 // as `apply` lends.
+#![tactic(auto)]
+
 fn main() {
     program::chukelowa_program_answers();
 }

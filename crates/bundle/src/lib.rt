@@ -1,10 +1,12 @@
 // Bundles in and out. The reader gives 1, 2, 13; the writer 2, 13. One rule writes and reads.
+#![tactic(auto)]
+
 ghost use Rattle.std.specs.Prelude.{◌≡◌, ◌<◌, ◌≤◌, length, take};
 ghost use Rattle.meaning.specs.Sheet.{need};
 ghost use Rattle.meaning.specs.Reply as reply;
 ghost use Rattle.bundle.specs.Calls.{Opens, replied};
 
-#[derive(Drop)]
+#[derive(Clone, Copy)]
 pub enum Copied {
     Done,
     Block,
@@ -21,7 +23,7 @@ fn need_in(p: &[u8], size: usize) -> usize
     sheet::need_of(&p[..size])
 }
 
-#[derive(Drop)]
+#[derive(Clone, Copy)]
 enum Opened {
     Sheet(usize),
     Refused,
@@ -71,7 +73,7 @@ pub fn read(b: &[u8], tables: &mut [u8]) -> Copied
             if tables.len() < need {
                 return Copied::Room;
             }
-            bytes::copy(&payload[..need], tables);
+            tables[..need].copy_from_slice(&payload[..need]);
             Copied::Done
         }
     }

@@ -1,5 +1,7 @@
 // The calls for C: over a bundle and lent bytes, answered in plain numbers. Block before all else; then the question, on the sheet that
 // the reader gives.
+#![tactic(auto)]
+
 ghost use Rattle.std.specs.Prelude.{◌≡◌, []};
 ghost use Rattle.meaning.specs.Words.{zeroed};
 ghost use Rattle.meaning.specs.Reply.{answer_code};
@@ -19,7 +21,7 @@ use fit::Answer;
 
 // An answer's number with what it carries, the units of both walks, and the root of a result.
 #[repr(C)]
-#[derive(Drop)]
+#[derive(Clone, Copy)]
 pub struct Reply {
     pub number: usize,
     pub a: usize,

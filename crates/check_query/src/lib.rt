@@ -1,5 +1,7 @@
 // How a check types queries (figure 13): a cycle of evaluators in which the remaining depth falls and, where a type is worked through
 // part by part, its row. Types are rows of the sheet or of those lent; each unit buys at most one row.
+#![tactic(auto)]
+
 ghost use Rattle.std.specs.Prelude.{◌+◌, ◌<◌, ◌≤◌};
 ghost use Rattle.meaning.specs.Sheet.{script_of};
 ghost use Rattle.meaning.specs.Kinds.{Query};
@@ -63,7 +65,7 @@ fn inside(s: &[u8], work: &mut [u8], used: usize, at: usize, root: usize, purse:
 }
 
 // Query row `at`.
-#[cycle(choose_either_for_each_join_let_in_parts_pick_query_same_tree)]
+#[cycle(queries)]
 pub fn query(
     s: &[u8],
     work: &mut [u8],
@@ -111,7 +113,7 @@ pub fn query(
 }
 
 // One type, then another.
-#[cycle(choose_either_for_each_join_let_in_parts_pick_query_same_tree)]
+#[cycle(queries)]
 fn join(
     s: &[u8],
     work: &mut [u8],
@@ -144,7 +146,7 @@ fn join(
 }
 
 // A labelled type.
-#[cycle(choose_either_for_each_join_let_in_parts_pick_query_same_tree)]
+#[cycle(queries)]
 fn tree(
     s: &[u8],
     work: &mut [u8],
@@ -171,7 +173,7 @@ fn tree(
 }
 
 // A query with a forest variable more.
-#[cycle(choose_either_for_each_join_let_in_parts_pick_query_same_tree)]
+#[cycle(queries)]
 fn let_in(
     s: &[u8],
     work: &mut [u8],
@@ -197,7 +199,7 @@ fn let_in(
 }
 
 // A condition is a bool, else Mismatch at the if; then both queries.
-#[cycle(choose_either_for_each_join_let_in_parts_pick_query_same_tree)]
+#[cycle(queries)]
 fn choose(
     s: &[u8],
     work: &mut [u8],
@@ -229,7 +231,7 @@ fn choose(
 }
 
 // The choice of two types.
-#[cycle(choose_either_for_each_join_let_in_parts_pick_query_same_tree)]
+#[cycle(queries)]
 fn either(
     s: &[u8],
     work: &mut [u8],
@@ -262,7 +264,7 @@ fn either(
 }
 
 // Two texts, compared.
-#[cycle(choose_either_for_each_join_let_in_parts_pick_query_same_tree)]
+#[cycle(queries)]
 fn same(
     s: &[u8],
     work: &mut [u8],
@@ -296,7 +298,7 @@ fn same(
 }
 
 // The atoms with a label.
-#[cycle(choose_either_for_each_join_let_in_parts_pick_query_same_tree)]
+#[cycle(queries)]
 fn pick(
     s: &[u8],
     work: &mut [u8],
@@ -322,7 +324,7 @@ fn pick(
 }
 
 // The body at each atom of a type.
-#[cycle(choose_either_for_each_join_let_in_parts_pick_query_same_tree)]
+#[cycle(queries)]
 fn for_each(
     s: &[u8],
     work: &mut [u8],
@@ -349,7 +351,7 @@ fn for_each(
 
 // A type part by part: the body with each atom as a tree variable. One answer at a time, in `a`: a type row visited is a frame, and
 // thousands may be visited at once.
-#[cycle(choose_either_for_each_join_let_in_parts_pick_query_same_tree)]
+#[cycle(queries)]
 fn parts(
     s: &[u8],
     work: &mut [u8],

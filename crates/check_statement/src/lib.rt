@@ -1,5 +1,7 @@
 // How a check types statements (figure 4), bodies and a whole script: a cycle of evaluators in which the remaining depth falls and,
 // where a type is worked through part by part, its row. A statement has a focus, the row of the type that it edits.
+#![tactic(auto)]
+
 ghost use Rattle.std.specs.Prelude.{◌≡◌, true, ◌*◌, ◌+◌, ◌<◌, ◌≤◌, length};
 ghost use Rattle.meaning.specs.Tests.{in_table};
 ghost use Rattle.meaning.specs.Sheet.{script_of};
@@ -69,7 +71,7 @@ fn rename(
 }
 
 // What a test says of the focus: no atom, a match, or none.
-#[derive(Drop)]
+#[derive(Clone, Copy)]
 enum Fate {
     Misfit,
     Matched,
@@ -258,7 +260,7 @@ fn call(
 }
 
 // Statement row `at` on a focus of the type at `focus`.
-#[cycle(children_choose_either_left_let_in_pair_parts_right_snapshot_statement_test)]
+#[cycle(statements)]
 pub fn statement(
     s: &[u8],
     work: &mut [u8],
@@ -339,7 +341,7 @@ pub fn statement(
 }
 
 // One statement, then another on what it gave.
-#[cycle(children_choose_either_left_let_in_pair_parts_right_snapshot_statement_test)]
+#[cycle(statements)]
 fn pair(
     s: &[u8],
     work: &mut [u8],
@@ -376,7 +378,7 @@ fn pair(
 }
 
 // A condition is a bool, else Mismatch at the if; then both statements.
-#[cycle(children_choose_either_left_let_in_pair_parts_right_snapshot_statement_test)]
+#[cycle(statements)]
 fn choose(
     s: &[u8],
     work: &mut [u8],
@@ -417,7 +419,7 @@ fn choose(
 }
 
 // The choice of what two statements give.
-#[cycle(children_choose_either_left_let_in_pair_parts_right_snapshot_statement_test)]
+#[cycle(statements)]
 fn either(
     s: &[u8],
     work: &mut [u8],
@@ -460,7 +462,7 @@ fn either(
 }
 
 // A statement with a forest variable more.
-#[cycle(children_choose_either_left_let_in_pair_parts_right_snapshot_statement_test)]
+#[cycle(statements)]
 fn let_in(
     s: &[u8],
     work: &mut [u8],
@@ -507,7 +509,7 @@ fn let_in(
 }
 
 // A statement with the focus as a forest variable.
-#[cycle(children_choose_either_left_let_in_pair_parts_right_snapshot_statement_test)]
+#[cycle(statements)]
 fn snapshot(
     s: &[u8],
     work: &mut [u8],
@@ -546,7 +548,7 @@ fn snapshot(
 }
 
 // A statement on an atom that matches; another stays as it is.
-#[cycle(children_choose_either_left_let_in_pair_parts_right_snapshot_statement_test)]
+#[cycle(statements)]
 fn test(
     s: &[u8],
     work: &mut [u8],
@@ -585,7 +587,7 @@ fn test(
 }
 
 // A statement on the content of a labelled atom, else Mismatch.
-#[cycle(children_choose_either_left_let_in_pair_parts_right_snapshot_statement_test)]
+#[cycle(statements)]
 fn children(
     s: &[u8],
     work: &mut [u8],
@@ -625,7 +627,7 @@ fn children(
 }
 
 // What the statement gives on (), set before the focus.
-#[cycle(children_choose_either_left_let_in_pair_parts_right_snapshot_statement_test)]
+#[cycle(statements)]
 fn left(
     s: &[u8],
     work: &mut [u8],
@@ -659,7 +661,7 @@ fn left(
 }
 
 // And behind it.
-#[cycle(children_choose_either_left_let_in_pair_parts_right_snapshot_statement_test)]
+#[cycle(statements)]
 fn right(
     s: &[u8],
     work: &mut [u8],
@@ -694,7 +696,7 @@ fn right(
 
 // A type part by part: the statement at each atom. One answer at a time, in `a`: a type row visited is a frame, and thousands may be
 // visited at once.
-#[cycle(children_choose_either_left_let_in_pair_parts_right_snapshot_statement_test)]
+#[cycle(statements)]
 fn parts(
     s: &[u8],
     work: &mut [u8],

@@ -1,5 +1,7 @@
 // The numbers: the one place where an answer becomes the number of its refusal, with the two values that it carries. What prints, and
 // the calls for C, go through it.
+#![tactic(auto)]
+
 ghost use Rattle.std.specs.Prelude.{◌≡◌};
 ghost use Rattle.meaning.specs.Reply.{code, answer_code};
 ghost use Rattle.bundle.specs.Calls.{copied_of};
@@ -42,7 +44,7 @@ const SCRATCH: usize = 12;
 const ROOM: usize = 13;
 
 // An answer in numbers: 0 for done or its refusal's, and what that carries, 0 where it is nothing.
-#[derive(Drop)]
+#[derive(Clone, Copy)]
 pub struct Coded {
     pub number: usize,
     pub a: usize,

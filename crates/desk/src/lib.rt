@@ -1,5 +1,7 @@
 // The questions check, run and apply, whole: the order of refusals, and the rows left behind. Working rows are zeroed in one place,
 // after the answer is known.
+#![tactic(auto)]
+
 ghost use Rattle.std.specs.Prelude.{◌≡◌, true, List, ℕ, ◌+◌, ◌*◌, ◌≤◌, ◌<◌, length};
 ghost use Rattle.meaning.specs.Words.{rows_lent, zeroed};
 ghost use Rattle.meaning.specs.Sheet.{script_of, sheet_of};
@@ -29,7 +31,7 @@ use type_ties::{Soundness, Tied};
 use walk::{Answer, Purse, Scope, Stop};
 
 // What a run says: its refusal or Done, with its units and the result's root.
-#[derive(Drop)]
+#[derive(Clone, Copy)]
 pub enum Ran {
     Done {
         units: usize,
@@ -56,7 +58,7 @@ fn load(s: &[u8], l: Layout, work: &mut [u8])
 {
     let from = 2 * l.rows_at;
     let to = from + 8 * l.rows;
-    bytes::copy(&s[from..to], work);
+    work[..to - from].copy_from_slice(&s[from..to]);
 }
 
 // Main, walked on the sheet's forest.
@@ -161,7 +163,7 @@ pub fn run(s: &[u8], work: &mut [u8], res: &mut [u8]) -> Ran
 
 // What a check says: its refusal or Done, with its units. A row is carried with 1 for a query, 2 for a statement, 0 for a declared
 // output.
-#[derive(Drop)]
+#[derive(Clone, Copy)]
 pub enum Checked {
     Done(usize),
     Shape,
@@ -290,7 +292,7 @@ pub fn check(s: &[u8], work: &mut [u8]) -> Checked
 }
 
 // What apply says: the check's refusal; beside the check's units, Unfit with the row of the first fault, or what the run says.
-#[derive(Drop)]
+#[derive(Clone, Copy)]
 pub enum Applied {
     Unchecked(Checked),
     Unfit { row: usize, units: usize },

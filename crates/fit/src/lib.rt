@@ -1,5 +1,7 @@
 // Fit: is the sheet's forest of the type at a row, and where is its first fault. Siblings are walked in a loop; only nesting costs
 // stack.
+#![tactic(auto)]
+
 ghost use Rattle.std.specs.Prelude.{◌≡◌, cond, ℕ, ◌≤◌, ◌<◌, get_or};
 ghost use Rattle.bits.specs.Sets.{in_set};
 ghost use Rattle.meaning.specs.Sheet.{grove_of};
@@ -18,7 +20,7 @@ use type_heads::{HEADS, Leads};
 use type_ties::{Soundness, Tied};
 
 // Done, or the refusal: 2, 3 with the name, 4 with the row and its rival, 10 with the row of the first fault.
-#[derive(Drop)]
+#[derive(Clone, Copy)]
 pub enum Answer {
     Done,
     Shape,
@@ -28,7 +30,7 @@ pub enum Answer {
 }
 
 // What is found of trees: they fit, or the row of their first fault.
-#[derive(Drop)]
+#[derive(Clone, Copy)]
 pub enum Outcome {
     Fits,
     Fault(usize),

@@ -1,5 +1,7 @@
 // Forests in lent rows, append only: a value is the row of its first tree, 0 the empty forest. Rows refer to lower rows, so old values
 // stay true.
+#![tactic(auto)]
+
 pub mod texts;
 
 ghost use Rattle.std.specs.Prelude.{◌≡◌, ℕ, ◌+◌, ◌*◌, ◌-◌, ◌<◌, ◌≤◌, length};
@@ -65,7 +67,7 @@ pub fn any_row(rows: &[u8], r: usize) -> Row
 pub fn push(rows: &mut [u8], used: usize, kind: usize, p: usize, q: usize, next: usize) -> usize
     requires { (8 * (used + 1) ≤ length rows.old) × (used < 65536) × (Words (record { kind = kind; p = p; q = q; r = next })) }
     ensures row { result ≡ used + 1 }
-    ensures written { Pushed rows.old rows.new used (record { kind = kind; p = p; q = q; result = next }) }
+    ensures written { Pushed rows.old rows.new used (record { kind = kind; p = p; q = q; r = next }) }
 {
     let i = 4 * used;
     put_word(rows, i, kind);
@@ -90,7 +92,7 @@ pub fn trees(rows: &[u8], root: usize) -> usize
     n
 }
 
-#[derive(Drop)]
+#[derive(Clone, Copy)]
 pub struct Grown {
     pub root: usize,
     pub used: usize,
@@ -210,7 +212,7 @@ pub fn gather(rows: &mut [u8], used: usize, link: usize) -> Grown
 }
 
 // What a forest is, where a rule looks at it.
-#[derive(Drop)]
+#[derive(Clone, Copy)]
 pub enum Seen {
     Nothing,
     Many,

@@ -1,5 +1,7 @@
 // The listing that the program `apply` prints. The bundle's questions are asked in turn, each by itself, until one is refused; each
 // answer is a line.
+#![tactic(auto)]
+
 pub mod lines;
 
 ghost use Rattle.std.specs.Prelude.{◌≡◌, [], ◌∷◌, ◌+◌, ◌≤◌, length};
@@ -10,7 +12,7 @@ ghost use Rattle.listing.specs.Lists.{RunTold, FitTold, SheetTold, Lists};
 use bundle::Copied;
 
 // The listing's bytes, and the number that ended it: 0 where all is done.
-#[derive(Drop)]
+#[derive(Clone, Copy)]
 pub struct Listed {
     pub bytes: usize,
     pub number: usize,

@@ -53,7 +53,7 @@ fn is_digit(byte: u8) -> bool {
 }
 
 // What a word says of rows: how many, or nothing that is a number.
-#[derive(Drop)]
+#[derive(Clone, Copy)]
 pub enum Rows {
     Lent(usize),
     Wrong,

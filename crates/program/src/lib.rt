@@ -1,5 +1,7 @@
 // The programs, whole, each with the exit status that it is to end with: 2 where reading or writing failed, or a word is no number,
 // which a line on standard error says. A Rattle `main` cannot end with one: a C `main` can (tools/program).
+#![tactic(auto)]
+
 pub mod fields;
 pub mod tell;
 

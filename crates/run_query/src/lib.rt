@@ -1,5 +1,7 @@
 // How a run's queries go (figure 12): a cycle of evaluators in which the remaining depth falls. Values are rows of the lent ones; each
 // unit buys at most one row.
+#![tactic(auto)]
+
 ghost use Rattle.std.specs.Prelude.{◌≡◌, ℕ, ◌+◌, ◌<◌, ◌≤◌};
 ghost use Rattle.meaning.specs.Kinds.{Query};
 ghost use Rattle.meaning.specs.Forest.{count, forest_at, bool_kind};
@@ -76,7 +78,7 @@ fn children(rows: &[u8], root: usize) -> usize
 }
 
 // Query row `at`.
-#[cycle(choose_each_for_each_join_let_in_pick_query_same_tree_turn)]
+#[cycle(queries)]
 pub fn query(
     s: &[u8],
     rows: &mut [u8],
@@ -131,7 +133,7 @@ pub fn query(
 }
 
 // One forest, copied, in front of another.
-#[cycle(choose_each_for_each_join_let_in_pick_query_same_tree_turn)]
+#[cycle(queries)]
 fn join(
     s: &[u8],
     rows: &mut [u8],
@@ -164,7 +166,7 @@ fn join(
 }
 
 // A labelled tree.
-#[cycle(choose_each_for_each_join_let_in_pick_query_same_tree_turn)]
+#[cycle(queries)]
 fn tree(
     s: &[u8],
     rows: &mut [u8],
@@ -191,7 +193,7 @@ fn tree(
 }
 
 // A query with a forest variable more.
-#[cycle(choose_each_for_each_join_let_in_pick_query_same_tree_turn)]
+#[cycle(queries)]
 fn let_in(
     s: &[u8],
     rows: &mut [u8],
@@ -217,7 +219,7 @@ fn let_in(
 }
 
 // A condition is one bool, else Stuck at the if.
-#[cycle(choose_each_for_each_join_let_in_pick_query_same_tree_turn)]
+#[cycle(queries)]
 fn choose(
     s: &[u8],
     rows: &mut [u8],
@@ -257,7 +259,7 @@ fn choose(
 }
 
 // Whether two texts have the same bytes.
-#[cycle(choose_each_for_each_join_let_in_pick_query_same_tree_turn)]
+#[cycle(queries)]
 fn same(
     s: &[u8],
     rows: &mut [u8],
@@ -291,7 +293,7 @@ fn same(
 }
 
 // The trees with a label.
-#[cycle(choose_each_for_each_join_let_in_pick_query_same_tree_turn)]
+#[cycle(queries)]
 fn pick(
     s: &[u8],
     rows: &mut [u8],
@@ -317,7 +319,7 @@ fn pick(
 }
 
 // The body for each tree of a forest.
-#[cycle(choose_each_for_each_join_let_in_pick_query_same_tree_turn)]
+#[cycle(queries)]
 fn for_each(
     s: &[u8],
     rows: &mut [u8],
@@ -343,7 +345,7 @@ fn for_each(
 }
 
 // A turn for each tree; then what the turns gave.
-#[cycle(choose_each_for_each_join_let_in_pick_query_same_tree_turn)]
+#[cycle(queries)]
 fn each(
     s: &[u8],
     rows: &mut [u8],
@@ -388,7 +390,7 @@ fn each(
 }
 
 // The body with one tree, alone, as a tree variable; its result as a link in front of the links before.
-#[cycle(choose_each_for_each_join_let_in_pick_query_same_tree_turn)]
+#[cycle(queries)]
 fn turn(
     s: &[u8],
     rows: &mut [u8],

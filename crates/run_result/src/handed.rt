@@ -5,7 +5,7 @@ ghost use Rattle.forest_rows.specs.Rows.{Readable};
 ghost use Rattle.run_result.specs.Hands.{HandsOut};
 
 // Too few rows are lent, or so many are written.
-#[derive(Drop)]
+#[derive(Clone, Copy)]
 pub enum Handed {
     Room,
     Rows(usize),

@@ -1,4 +1,6 @@
 // A run's result as rows: counted as far as there is room, then written from its last row down to its first. Only nesting takes stack.
+#![tactic(auto)]
+
 pub mod handed;
 
 ghost use Rattle.std.specs.Prelude.{◌≡◌, [], ◌∷◌, ◌+◌, ◌*◌, ◌≤◌, length};

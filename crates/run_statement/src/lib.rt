@@ -1,5 +1,7 @@
 // How a run's statements go (figure 3): a cycle of evaluators in which the remaining depth falls. A statement has a focus, the row of
 // the forest that it edits.
+#![tactic(auto)]
+
 ghost use Rattle.std.specs.Prelude.{◌≡◌, ℕ, ◌+◌, ◌<◌, ◌≤◌};
 ghost use Rattle.meaning.specs.Kinds.{Statement, test_form, present};
 ghost use Rattle.meaning.specs.Forest.{count, forest_at};
@@ -63,7 +65,7 @@ fn rename(
 }
 
 // What a test says of the focus: no one tree, a match, or none.
-#[derive(Drop)]
+#[derive(Clone, Copy)]
 enum Fate {
     Misfit,
     Matched,
@@ -108,7 +110,7 @@ fn judge(rows: &[u8], p: usize, q: usize, focus: usize) -> Fate
 }
 
 // Statement row `at` on the forest at `focus`.
-#[cycle(call_children_choose_iter_left_let_in_pair_right_snapshot_statement_test_turn)]
+#[cycle(statements)]
 pub fn statement(
     s: &[u8],
     rows: &mut [u8],
@@ -162,7 +164,7 @@ pub fn statement(
 }
 
 // One statement, then another on what it gave.
-#[cycle(call_children_choose_iter_left_let_in_pair_right_snapshot_statement_test_turn)]
+#[cycle(statements)]
 fn pair(
     s: &[u8],
     rows: &mut [u8],
@@ -188,7 +190,7 @@ fn pair(
 }
 
 // A condition is one bool, else Stuck at the if.
-#[cycle(call_children_choose_iter_left_let_in_pair_right_snapshot_statement_test_turn)]
+#[cycle(statements)]
 fn choose(
     s: &[u8],
     rows: &mut [u8],
@@ -228,7 +230,7 @@ fn choose(
 }
 
 // A statement with a forest variable more.
-#[cycle(call_children_choose_iter_left_let_in_pair_right_snapshot_statement_test_turn)]
+#[cycle(statements)]
 fn let_in(
     s: &[u8],
     rows: &mut [u8],
@@ -254,7 +256,7 @@ fn let_in(
 }
 
 // A statement with the focus as a forest variable.
-#[cycle(call_children_choose_iter_left_let_in_pair_right_snapshot_statement_test_turn)]
+#[cycle(statements)]
 fn snapshot(
     s: &[u8],
     rows: &mut [u8],
@@ -273,7 +275,7 @@ fn snapshot(
 }
 
 // A statement on a tree that matches; another stays as it is.
-#[cycle(call_children_choose_iter_left_let_in_pair_right_snapshot_statement_test_turn)]
+#[cycle(statements)]
 fn test(
     s: &[u8],
     rows: &mut [u8],
@@ -303,7 +305,7 @@ fn test(
 }
 
 // A statement on the children of one labelled tree, else Stuck.
-#[cycle(call_children_choose_iter_left_let_in_pair_right_snapshot_statement_test_turn)]
+#[cycle(statements)]
 fn children(
     s: &[u8],
     rows: &mut [u8],
@@ -336,7 +338,7 @@ fn children(
 }
 
 // What the statement gives on (), set before the focus.
-#[cycle(call_children_choose_iter_left_let_in_pair_right_snapshot_statement_test_turn)]
+#[cycle(statements)]
 fn left(
     s: &[u8],
     rows: &mut [u8],
@@ -362,7 +364,7 @@ fn left(
 }
 
 // And behind it.
-#[cycle(call_children_choose_iter_left_let_in_pair_right_snapshot_statement_test_turn)]
+#[cycle(statements)]
 fn right(
     s: &[u8],
     rows: &mut [u8],
@@ -388,7 +390,7 @@ fn right(
 }
 
 // A turn for each tree of the focus as it was; then what the turns gave.
-#[cycle(call_children_choose_iter_left_let_in_pair_right_snapshot_statement_test_turn)]
+#[cycle(statements)]
 fn iter(
     s: &[u8],
     rows: &mut [u8],
@@ -433,7 +435,7 @@ fn iter(
 }
 
 // The body on one tree, alone; its result as a link in front of the links before.
-#[cycle(call_children_choose_iter_left_let_in_pair_right_snapshot_statement_test_turn)]
+#[cycle(statements)]
 fn turn(
     s: &[u8],
     rows: &mut [u8],
@@ -470,7 +472,7 @@ fn turn(
 }
 
 // A call's queries, in order; then the procedure's body with what they gave as its only variables.
-#[cycle(call_children_choose_iter_left_let_in_pair_right_snapshot_statement_test_turn)]
+#[cycle(statements)]
 fn call(
     s: &[u8],
     rows: &mut [u8],

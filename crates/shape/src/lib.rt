@@ -1,4 +1,6 @@
 // Shape, refusal 2: every rule and limit under "Tables" in document 01, without recursion and in time linear in the rows.
+#![tactic(auto)]
+
 ghost use Rattle.std.specs.Prelude.{◌≡◌, List, ℕ};
 ghost use Rattle.meaning.specs.Sheet.{sheet_of};
 ghost use Rattle.meaning.specs.Shape.{limits_ok, names_ok, procedure_ok, procedures_ok, roots_ok};

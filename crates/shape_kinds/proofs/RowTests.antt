@@ -1,5 +1,5 @@
 -- One turn of the loops over a table's rows: what `row_ok` answers is the meaning's test of that row; and the meaning's tables by their layout.
-use mathlib.Core.Path.{◌≡◌, sym, ◌∙◌}
+use mathlib.Core.Path.{◌≡◌, sym, subst, ◌∙◌}
 use mathlib.Core.Bool.{Bool, ◌&&◌}
 use mathlib.Core.List.{List}
 use Prim.Native.Nat.{ℕ}
@@ -15,7 +15,7 @@ use Rattle.shape_kinds.specs.declared.Kinds.{Kinds}
 
 pub turn : (S : Sheet) (n : ℕ) (g : Cells → meaning.Uses) (i : ℕ) {c : Row} {x : Cells} {k : Kinds} {r : Bool}
     → cells_of c ≡ x → Says n c.kind (g (cells_of c)) k → r ≡ is_known k && words_ok S (uses_in k) i (cells_of c) → r ≡ row_ok S n g i x
-turn S n g i {c} {x} {k} {r} e h t = rw e at now
+turn S n g i {c} {x} {k} {r} e h t = subst (λ (y : Cells). r ≡ row_ok S n g i y) e now
   where
     now : r ≡ row_ok S n g i (cells_of c)
     now = t ∙ rw (h.is, h.uses)
@@ -56,4 +56,4 @@ module _ {s : List ℕ} {l : Layout} (L : Laid s l) where
 
   -- a forest row's test, of the row as it was read
   pub forest_turn : (i : ℕ) {c : Row} {r : Bool} → cells_of c ≡ (grove_of s).row i → r ≡ row_ok (sheet_of s) 4 forest_uses i (cells_of c) → r ≡ row_test s i
-  forest_turn i e t = rw e at t
+  forest_turn i {c} {r} e t = subst (λ (y : Cells). r ≡ row_ok (sheet_of s) 4 forest_uses i y) e t

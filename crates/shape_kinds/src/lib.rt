@@ -1,5 +1,7 @@
 // What each word of a row is for, by the row's kind, and whether it is what that use asks: the rules under "Tables" that speak of one
 // row.
+#![tactic(auto)]
+
 ghost use Rattle.std.specs.Prelude.{◌≡◌, ◌&&◌, cond, eqb, List, ℕ};
 ghost use Rattle.meaning.specs.Tests.{in_table};
 ghost use Rattle.meaning.specs.Sheet.{Sheet, script_of, sheet_of};
@@ -27,7 +29,7 @@ ghost use Rattle.shape_kinds.specs.Told.{use_of, uses_of, is_known, uses_in, row
 use sheet::{Layout, Procedure, Row};
 
 // What a word of a row is for.
-#[derive(Drop)]
+#[derive(Clone, Copy)]
 pub enum Use {
     Unused,
     Free,
@@ -41,7 +43,7 @@ pub enum Use {
     Size(usize),
 }
 
-#[derive(Drop)]
+#[derive(Clone, Copy)]
 pub struct Uses {
     pub p: Use,
     pub q: Use,
@@ -49,7 +51,7 @@ pub struct Uses {
 }
 
 // The uses of a row's words, if its kind is one of its table's.
-#[derive(Drop)]
+#[derive(Clone, Copy)]
 pub enum Kinds {
     Known(Uses),
     Refused,

@@ -1,5 +1,7 @@
 // Scope: each row is handed its scope by its one user, which stands above it, so one pass from the top down judges a table.
 // The scope of a row is one word: how many places in its low five bits, and above them a bit for each place, 1 where it holds a tree.
+#![tactic(auto)]
+
 pub mod word;
 
 ghost use Rattle.std.specs.Prelude.{◌≡◌, true, replicate};

@@ -1,4 +1,6 @@
 // Exactly one user: the references to each row are counted in one pass, up to 2.
+#![tactic(auto)]
+
 pub mod tally;
 
 ghost use Rattle.std.specs.Prelude.{◌≡◌, true, ◌&&◌, cond, ◌+◌, ◌≤◌, eqb};

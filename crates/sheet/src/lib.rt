@@ -1,6 +1,8 @@
 // A lent sheet: its header, where each table begins, and one row of each table as a small struct. What is no row of its table reads as
 // zeros, so nobody above asks about bounds.
 // A row is read of a sheet that is whole, so no word is tested for the end of the bytes.
+#![tactic(auto)]
+
 ghost use Rattle.std.specs.Prelude.{◌≡◌, ℕ, ◌+◌, ◌*◌, ◌-◌, ◌<◌, ◌≤◌};
 ghost use Rattle.meaning.specs.Sheet.{blank, need, types_in_header, pool_at, script_of, grove_of, row3, row4, row5};
 ghost use Rattle.sheet.specs.Laid.{Laid, Words, cells_of, procedure_of};
@@ -9,7 +11,7 @@ ghost use Rattle.sheet.specs.Whole.{Whole, Lies};
 use words::{word_at, word_in};
 
 // One row of types, queries, statements or forests: its kind and its words. Types have no `r`; in a forest row it is the next tree.
-#[derive(Drop)]
+#[derive(Clone, Copy)]
 pub struct Row {
     pub kind: u16,
     pub p: usize,
@@ -17,7 +19,7 @@ pub struct Row {
     pub r: usize,
 }
 
-#[derive(Drop)]
+#[derive(Clone, Copy)]
 pub struct Procedure {
     pub first: usize,
     pub second: usize,
@@ -27,7 +29,7 @@ pub struct Procedure {
 }
 
 // The header's words, and the word at which each table begins. Names begin at word 13.
-#[derive(Drop)]
+#[derive(Clone, Copy)]
 pub struct Layout {
     pub names: usize,
     pub types: usize,

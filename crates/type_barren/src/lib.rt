@@ -1,5 +1,7 @@
 // Barren names: a name is marked once its row is known to have a forest. A round marks what the last one allows; once a round marks
 // nothing, what is not marked is barren.
+#![tactic(auto)]
+
 ghost use Rattle.std.specs.Prelude.{◌≡◌, true, cond, ◌+◌, ◌<◌, ◌≤◌, set, length, eqb};
 ghost use Rattle.meaning.specs.Sheet.{script_of};
 ghost use Rattle.meaning.specs.Types.{declared};

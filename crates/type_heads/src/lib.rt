@@ -1,4 +1,6 @@
 // Heads of places: text, bool or a label, by number, and the places of each head as sets.
+#![tactic(auto)]
+
 pub mod kin;
 
 ghost use Rattle.std.specs.Prelude.{◌≡◌, true, ◌+◌, ◌<◌, replicate};

@@ -1,4 +1,6 @@
 // Which type rows are models of their own: the declared types and the contents of label rows, as flags.
+#![tactic(auto)]
+
 ghost use Rattle.std.specs.Prelude.{◌≡◌, false, ℕ, ◌+◌, ◌<◌, ◌≤◌, length, eqb};
 ghost use Rattle.meaning.specs.Tests.{some};
 ghost use Rattle.meaning.specs.Sheet.{row3};

@@ -1,6 +1,8 @@
 // The places of type rows: which rows may be empty, what may stand first at each, and what may stand next behind each. End is place 0.
 // A table of `n` type rows is lent as bytes and the word `at` at which it begins: a sheet's own, or a type written out. The rows up to
 // `low` are blank and are not looked at.
+#![tactic(auto)]
+
 ghost use Rattle.std.specs.Prelude.{◌≡◌, true, false, ℕ, ◌+◌, ◌<◌, ◌≤◌, length};
 ghost use Rattle.meaning.specs.Sheet.{row3};
 ghost use Rattle.meaning.specs.Places.{nullable};

@@ -1,5 +1,7 @@
 // Types as a check keeps them: a value is a row of the sheet's table or, past its last, one written to the lent rows. 0 is (). Rows
 // refer to lower rows, so old values stay true.
+#![tactic(auto)]
+
 pub mod parts;
 pub mod written;
 
@@ -19,7 +21,7 @@ use walk::{Purse, Taken};
 
 // What ends a check's walk besides a type; the purse is what was left. A row is carried with 1 for a query, 2 for a statement, 0 for a
 // declared output.
-#[derive(Drop)]
+#[derive(Clone, Copy)]
 pub enum Halt {
     Fuel,
     Depth(Purse),
@@ -28,7 +30,7 @@ pub enum Halt {
     Outside(usize, usize, Purse),
 }
 
-#[derive(Drop)]
+#[derive(Clone, Copy)]
 pub enum Found {
     Done {
         root: usize,
@@ -79,7 +81,7 @@ pub fn write(
 }
 
 // An atom as written: its head, and the content of a labelled one; a name acts as its label row.
-#[derive(Drop)]
+#[derive(Clone, Copy)]
 pub enum Atom {
     Other,
     Text,

@@ -13,7 +13,7 @@ use crate::{Atom, Found, Halt, write};
 use walk::{Purse, Taken};
 
 // (), an atom, a sequence or choice (its kind, 5 or 6, and two rows), or a star.
-#[derive(Drop)]
+#[derive(Clone, Copy)]
 pub enum Part {
     Nothing,
     Atom,

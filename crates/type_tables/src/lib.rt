@@ -1,4 +1,6 @@
 // The tables of a sheet's types, made once for a question; 3 and 4 are judged on the way. Fit, inclusion and the check borrow them.
+#![tactic(auto)]
+
 pub mod points;
 
 ghost use Rattle.std.specs.Prelude.{◌≡◌, true, replicate};

@@ -1,5 +1,7 @@
 // Ties, and whether a well shaped sheet is sound: refusals 3 and 4. Ones count the places of a head at a point; trailing zeros find the
 // lowest and its lowest rival.
+#![tactic(auto)]
+
 ghost use Rattle.std.specs.Prelude.{◌≡◌, true, false, List, ℕ, ◌+◌, ◌<◌, ◌≤◌, length, replicate};
 ghost use Rattle.meaning.specs.Sheet.{script_of};
 ghost use Rattle.meaning.specs.Shape.{shapely};
@@ -17,7 +19,7 @@ use sheet::Layout;
 use type_heads::{HEADS, Leads};
 
 // Two tied rows; row 0 where there are none.
-#[derive(Drop)]
+#[derive(Clone, Copy)]
 pub struct Tied {
     pub row: usize,
     pub rival: usize,
@@ -236,7 +238,7 @@ fn lowest_tie(s: &[u8], l: Layout) -> Tied
 }
 
 // Refusals 3 and 4, of a sheet that is well shaped.
-#[derive(Drop)]
+#[derive(Clone, Copy)]
 pub enum Soundness {
     Done,
     Barren(usize),

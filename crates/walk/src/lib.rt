@@ -1,15 +1,17 @@
 // What both walks carry: the purse, by value, and the scope of sixteen places.
+#![tactic(auto)]
+
 ghost use Rattle.std.specs.Prelude.{◌≡◌, ℕ, ◌+◌, ◌<◌, ◌≤◌, length};
 ghost use Rattle.walk.specs.Purse.{Paid};
 ghost use Rattle.walk.specs.Scope.{Fresh, More, value_of};
 
 // Units that are left.
-#[derive(Drop)]
+#[derive(Clone, Copy)]
 pub struct Purse {
     pub left: usize,
 }
 
-#[derive(Drop)]
+#[derive(Clone, Copy)]
 pub enum Taken {
     Left(Purse),
     Fuel,
@@ -48,13 +50,13 @@ impl Purse {
 }
 
 // A place of the scope: 1 for a forest variable, 2 for a tree variable; its value is a row.
-#[derive(Drop)]
+#[derive(Clone, Copy)]
 pub struct Place {
     pub kind: u8,
     pub value: u16,
 }
 
-#[derive(Drop)]
+#[derive(Clone, Copy)]
 pub struct Scope {
     pub places: [Place; 16],
     pub count: usize,
@@ -101,14 +103,14 @@ impl Scope {
 }
 
 // What ends a run's walk besides a forest; the purse is what was left. A row is carried with 1 for a query, 2 for a statement.
-#[derive(Drop)]
+#[derive(Clone, Copy)]
 pub enum Stop {
     Fuel,
     Depth(Purse),
     Stuck(usize, usize, Purse),
 }
 
-#[derive(Drop)]
+#[derive(Clone, Copy)]
 pub enum Answer {
     Done {
         root: usize,

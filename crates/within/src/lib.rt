@@ -1,5 +1,7 @@
 // Inclusion of types, exact: the found type is written out. In (), text and bool the sums of its rows settle it; in a declared type or
 // a content, the pairs of places that one tree can reach.
+#![tactic(auto)]
+
 pub mod row;
 
 ghost use Rattle.std.specs.Prelude.{◌≡◌, true, ℕ, ◌+◌, ◌≤◌, ◌<◌};
@@ -23,7 +25,7 @@ use type_heads::Leads;
 use type_heads::kin::Kin;
 
 // More than 512 rows written out, or whether it lies within the wanted type.
-#[derive(Drop)]
+#[derive(Clone, Copy)]
 pub enum Judgement {
     Wide,
     Holds,

@@ -1,4 +1,6 @@
 // The pairs of places, one of a table of found rows and one of the sheet's, that one tree can reach, walked until none is pending.
+#![tactic(auto)]
+
 pub mod pending;
 
 ghost use Rattle.std.specs.Prelude.{◌≡◌, true, ◌<◌, get_or};

@@ -1,4 +1,6 @@
 // 16-bit words, low byte first, in byte slices. Above this crate nobody knows how a word lies in bytes.
+#![tactic(auto)]
+
 ghost use Rattle.std.specs.Prelude.{◌≡◌, List, ◌++◌, ℕ, ◌+◌, ◌*◌, ◌/◌, ◌%◌, ◌<◌, ◌≤◌, length, get_or, take, drop};
 ghost use Rattle.meaning.specs.Words.{word_at, zeroed};
 ghost use Rattle.words.specs.Puts.{put_word};

@@ -223,11 +223,17 @@ Distinct (TypeRow.name x) = Unit {0}
 
 pub side_lower : (t : TypeRow) (i j : ℕ) → Low t i → Side t j → j < i
 unfolding Low Side
+side_lower TypeRow.none i j l e = elim e [ ]
+side_lower TypeRow.empty i j l e = elim e [ ]
+side_lower TypeRow.text i j l e = elim e [ ]
+side_lower TypeRow.bool i j l e = elim e [ ]
+side_lower (TypeRow.label n q) i j l e = elim e [ ]
 side_lower (TypeRow.seq p q) i j l (inl e) = rw e at l.0
 side_lower (TypeRow.seq p q) i j l (inr e) = rw e at l.1
 side_lower (TypeRow.choice p q) i j l (inl e) = rw e at l.0
 side_lower (TypeRow.choice p q) i j l (inr e) = rw e at l.1
 side_lower (TypeRow.star p) i j l e = rw e at l
+side_lower (TypeRow.name x) i j l e = elim e [ ]
 
 -- ---- steps enough: only rows up to r are looked at, and r steps are enough
 
@@ -509,11 +515,17 @@ hit_one p j e = rw (eq-eqb p j e)
 
 pub side_hit : (c : Cells) (t : TypeRow) → View c t → (j : ℕ) → Side t j → 1 ≤ type_hits j c
 unfolding Side own
+side_hit c t v_none j h = elim h [ ]
+side_hit c t v_empty j h = elim h [ ]
+side_hit c t (v_text e) j h = elim h [ ]
+side_hit c t (v_bool e) j h = elim h [ ]
+side_hit c t (v_label e) j h = elim h [ ]
 side_hit c t (v_seq e) j (inl h) = rw e (omega (arith, hit_one c.p j h))
 side_hit c t (v_seq e) j (inr h) = rw e (omega (arith, hit_one c.q j h))
 side_hit c t (v_choice e) j (inl h) = rw e (omega (arith, hit_one c.p j h))
 side_hit c t (v_choice e) j (inr h) = rw e (omega (arith, hit_one c.q j h))
 side_hit c t (v_star e) j h = rw e (omega (arith, hit_one c.p j h))
+side_hit c t (v_name e) j h = elim h [ ]
 
 -- if no row is hit twice, then the two sides are not one row
 distinct_row : (c : Cells) (t : TypeRow) → View c t → ((j : ℕ) → 0 < j → Side t j → 2 ≤ type_hits j c → ⊥) → Distinct t
@@ -555,9 +567,15 @@ module _ (s : List ℕ) (e : shapely s ≡ true) where
   side_in i j x = go (view ((script_of s).type_row i)) x
     where
       go : {t : TypeRow} → View ((script_of s).type_row i) t → Side t j → in_table (script_of s).types i ≡ true
+      go v_none y = elim y [ ]
+      go v_empty y = elim y [ ]
+      go (v_text k) y = elim y [ ]
+      go (v_bool k) y = elim y [ ]
+      go (v_label k) y = elim y [ ]
       go (v_seq k) y = kind_in s i 4 k
       go (v_choice k) y = kind_in s i 5 k
       go (v_star k) y = kind_in s i 6 k
+      go (v_name k) y = elim y [ ]
 
   -- a side is used once
   few_hits : (i j : ℕ) → 0 < j → Side (type_form ((script_of s).type_row i)) j → total (λ i. type_hits j ((script_of s).type_row i)) (script_of s).types ≤ 1

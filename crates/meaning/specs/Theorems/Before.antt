@@ -28,6 +28,7 @@ pub data Follows {Q A : Type 0} : Walk Q A → Walk Q A → Type 0 where
 -- so what the first gives, the second gives, and as many units are left
 pub follows_gives : {Q A : Type 0} (J : Q → Judgement → Type 0) {w v : Walk Q A} {n m : ℕ} {x : A} → Follows w v → Settles J w n (gives x) m → Settles J v n (gives x) m
 follows_gives J f_ret walk.done = walk.done
+follows_gives J f_halt s = elim s [ ]
 follows_gives J (f_tick f) (paid s) = paid (follows_gives J f s)
 follows_gives J (f_ask f) (passed j s) = passed j (follows_gives J f s)
 

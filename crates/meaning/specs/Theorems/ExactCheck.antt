@@ -361,8 +361,8 @@ module _ (S : Script) where
   picks_sure : (l : ℕ) {τ σ : Ty} → Picks (names_in S) l τ σ → Sure Met σ (λ d. parts (λ α. picked (tests (Test.label l) (atom_of (names_in S) α)) α) τ)
   unfolding parts picked
   picks_sure l p_empty = sure_tick (sure_ret refl)
-  picks_sure l (p_kept m) = atom_sure _ (matches_atom (names_in S) m) (rw (matches_tests (names_in S) m) (sure_ret refl))
-  picks_sure l (p_away d) = atom_sure _ d.atom (rw (differs_tests (names_in S) d) (sure_tick (sure_ret refl)))
+  picks_sure l (p_kept m) = atom_sure (λ k β. picked (tests (Test.label l) (atom_of (names_in S) β)) β) (matches_atom (names_in S) m) (rw (matches_tests (names_in S) m) (sure_ret refl))
+  picks_sure l (p_away d) = atom_sure (λ k β. picked (tests (Test.label l) (atom_of (names_in S) β)) β) d.atom (rw (differs_tests (names_in S) d) (sure_tick (sure_ret refl)))
   picks_sure l (p_seq a b) = sure_tick (sure_then _ (picks_sure l a) (sure_then _ (picks_sure l b) (sure_tick (sure_ret refl))))
   picks_sure l (p_choice a b) = sure_tick (sure_then _ (picks_sure l a) (sure_then _ (picks_sure l b) (sure_tick (sure_ret refl))))
   picks_sure l (p_star a) = sure_tick (sure_then _ (picks_sure l a) (sure_tick (sure_ret refl)))
@@ -391,7 +391,7 @@ module _ (S : Script) where
 
     each_sure : {Γ : Types} {q : ℕ} {τ σ : Ty} → HasEach S Γ q τ σ → Sure Met σ (λ d. parts (λ α. infer S d (Γ ++ α ∷ []) q) τ)
     each_sure e_empty = sure_tick (sure_ret refl)
-    each_sure (e_atom a b) = atom_sure _ a (has_sure b)
+    each_sure {Γ} {q} (e_atom a b) = atom_sure (λ d β. infer S d (Γ ++ β ∷ []) q) a (has_sure b)
     each_sure (e_seq a b) = sure_tick (sure_then _ (each_sure a) (sure_then _ (each_sure b) (sure_tick (sure_ret refl))))
     each_sure (e_choice a b) = sure_tick (sure_then _ (each_sure a) (sure_then _ (each_sure b) (sure_tick (sure_ret refl))))
     each_sure (e_star a) = sure_tick (sure_then _ (each_sure a) (sure_tick (sure_ret refl)))
@@ -433,7 +433,7 @@ module _ (S : Script) where
 
     iter_sure : {Γ : Types} {p : ℕ} {τ σ : Ty} → TypedEach S Γ p τ σ → Sure Met σ (λ d. parts (typing S d Γ p) τ)
     iter_sure i_empty = sure_tick (sure_ret refl)
-    iter_sure (i_atom a b) = atom_sure _ a (typed_sure b)
+    iter_sure {Γ} {p} (i_atom a b) = atom_sure (λ d. typing S d Γ p) a (typed_sure b)
     iter_sure (i_seq a b) = sure_tick (sure_then _ (iter_sure a) (sure_then _ (iter_sure b) (sure_tick (sure_ret refl))))
     iter_sure (i_choice a b) = sure_tick (sure_then _ (iter_sure a) (sure_then _ (iter_sure b) (sure_tick (sure_ret refl))))
     iter_sure (i_star a) = sure_tick (sure_then _ (iter_sure a) (sure_tick (sure_ret refl)))

@@ -9,7 +9,7 @@ use Rattle.meaning.specs.Sheet.{Script, Grove, script_of, grove_of}
 use Rattle.meaning.specs.Forest.{cons, forest_of}
 use Rattle.meaning.specs.Types.{Head, Head-discrete, Of, declared, names_in}
 use Rattle.meaning.specs.Shape.{shapely}
-use Rattle.meaning.specs.Places.{Model, next, acting, head_at, model_in, Fits, Admits, Untied}
+use Rattle.meaning.specs.Places.{Model, Set, next, acting, head_at, model_in, Fits, Admits, Untied}
 use Rattle.meaning.specs.Faults.{tree_head, trees_at, tree_at, Stands, Fault, ends, head, inside, behind, FaultOf}
 use Rattle.meaning.specs.Laws.Bools.{and_left, and_right, and_both, either, not_both}
 use Rattle.meaning.specs.Laws.Tests.{table_high}
@@ -183,39 +183,58 @@ module _ (s : List ℕ) (e : shapely s ≡ true) where
     one_place : (y : Point ℕ) {r a b : ℕ} → At y → Stood y r a → Stood y r b → a ≡ b
     one_place y {r} {a} {b} h d c = part_free y h a b (stood_has y d) (stood_has y c) (d.has_head ∙ sym c.has_head)
 
+    -- the walk down a fault, its model and its set any that are those of the point
+    bars_at : (y : Point ℕ) {parent r x : ℕ} {m : Model} {u : Set} → Fault S.type_row S.name_row G parent r m u x → m ≡ model_here y → u ≡ y.set → At y → r ≤ G.rows → Goes r y → ⊥
+    bars_at y (ends z f) o v h b g = not_both ((goes_zero y).0 (rw z at g)) (rw v at f)
+    bars_at y (head {r = r} p none) o v h b g = let t = goes_taken p b y g in none t.0 (rw v t.1.stood)
+    bars_at y (inside {r = r} {a = a} p d k w) o v h b g =
+        let d' : Stood y r a = rw v at d in
+        let t = goes_taken p b y g in
+        let i : t.0 ≡ a = one_place y h t.1.stood d' in
+        bars_at (within a) w refl refl (at_within h d' k) (omega (arith, child_lower r p b k)) (tree_inside p b a (rw i at t.1.fits) k)
+    bars_at y (behind {r = r} {a = a} p d f w) o v h b g =
+        let d' : Stood y r a = rw v at d in
+        let t = goes_taken p b y g in
+        let i : t.0 ≡ a = one_place y h t.1.stood d' in
+        bars_at (beyond y a) w o (rw o) (at_beyond h d') (omega (arith, next_lower r p b)) (rw i at t.1.rest)
+
     bars : (y : Point ℕ) {parent r x : ℕ} → Wrong parent r y x → At y → r ≤ G.rows → Goes r y → ⊥
-    bars y (ends z f) h b g = not_both ((goes_zero y).0 (rw z at g)) f
-    bars y (head p none) h b g = let t = goes_taken p b y g in none t.0 t.1.stood
-    bars y (inside {r = r} {a = a} p d k w) h b g =
-        let t = goes_taken p b y g in
-        let i : t.0 ≡ a = one_place y h t.1.stood d in
-        bars (within a) w (at_within h d k) (omega (arith, child_lower r p b k)) (tree_inside p b a (rw i at t.1.fits) k)
-    bars y (behind {r = r} {a = a} p d f w) h b g =
-        let t = goes_taken p b y g in
-        let i : t.0 ≡ a = one_place y h t.1.stood d in
-        bars (beyond y a) w (at_beyond h d) (omega (arith, next_lower r p b)) (rw i at t.1.rest)
+    bars y w h b g = bars_at y w refl refl h b g
+
+    -- the same of two faults at one point
+    one_at : (y : Point ℕ) {parent r x z : ℕ} {m n : Model} {u v : Set} → Fault S.type_row S.name_row G parent r m u x → Fault S.type_row S.name_row G parent r n v z
+        → m ≡ model_here y → u ≡ y.set → n ≡ model_here y → v ≡ y.set → At y → r ≤ G.rows → x ≡ z
+    one_at y (ends o f) (ends o' f') em eu en ev h b = refl
+    one_at y (ends o f) (head p none) em eu en ev h b = absurd (omega arith)
+    one_at y (ends o f) (inside p d k w) em eu en ev h b = absurd (omega arith)
+    one_at y (ends o f) (behind p d g w) em eu en ev h b = absurd (omega arith)
+    one_at y (head p none) (ends o f) em eu en ev h b = absurd (omega arith)
+    one_at y (head p none) (head q none') em eu en ev h b = refl
+    one_at y (head p none) (inside {a = a} q d k w) em eu en ev h b = absurd (none a (rw (eu ∙ sym ev) d))
+    one_at y (head p none) (behind {a = a} q d g w) em eu en ev h b = absurd (none a (rw (eu ∙ sym ev) d))
+    one_at y (inside p d k w) (ends o f) em eu en ev h b = absurd (omega arith)
+    one_at y (inside {a = a} p d k w) (head q none) em eu en ev h b = absurd (none a (rw (ev ∙ sym eu) d))
+    one_at y (inside {r = r} {a = a} p d k w) (inside {a = c} q d' k' w') em eu en ev h b =
+        let t : Stood y r a = rw eu at d in
+        let i : c ≡ a = one_place y h (rw ev at d') t in
+        one_at (within a) w w' refl refl (rw i) (rw i) (at_within h t k) (omega (arith, child_lower r p b k))
+    one_at y (inside {r = r} {a = a} p d k w) (behind {a = c} q d' g w') em eu en ev h b =
+        let t : Stood y r a = rw eu at d in
+        let i : c ≡ a = one_place y h (rw ev at d') t in
+        absurd (bars (within a) w (at_within h t k) (omega (arith, child_lower r p b k)) (tree_inside p b a (rw i at g) k))
+    one_at y (behind p d g w) (ends o f) em eu en ev h b = absurd (omega arith)
+    one_at y (behind {a = a} p d g w) (head q none) em eu en ev h b = absurd (none a (rw (ev ∙ sym eu) d))
+    one_at y (behind {r = r} {a = a} p d g w) (inside {a = c} q d' k w') em eu en ev h b =
+        let t : Stood y r c = rw ev at d' in
+        let i : a ≡ c = one_place y h (rw eu at d) t in
+        absurd (bars (within c) w' (at_within h t k) (omega (arith, child_lower r p b k)) (tree_inside p b c (rw i at g) k))
+    one_at y (behind {r = r} {a = a} p d g w) (behind {a = c} q d' g' w') em eu en ev h b =
+        let t : Stood y r a = rw eu at d in
+        let i : c ≡ a = one_place y h (rw ev at d') t in
+        one_at (beyond y a) w w' em (rw em) en (rw (en, i)) (at_beyond h t) (omega (arith, next_lower r p b))
 
     one_wrong : (y : Point ℕ) {parent r x z : ℕ} → Wrong parent r y x → Wrong parent r y z → At y → r ≤ G.rows → x ≡ z
-    one_wrong y (ends o f) (ends o' f') h b = refl
-    one_wrong y (ends o f) (head p none) h b = absurd (omega arith)
-    one_wrong y (ends o f) (inside p d k w) h b = absurd (omega arith)
-    one_wrong y (ends o f) (behind p d g w) h b = absurd (omega arith)
-    one_wrong y (head p none) (ends o f) h b = absurd (omega arith)
-    one_wrong y (head p none) (head q none') h b = refl
-    one_wrong y (head p none) (inside {a = a} q d k w) h b = absurd (none a d)
-    one_wrong y (head p none) (behind {a = a} q d g w) h b = absurd (none a d)
-    one_wrong y (inside p d k w) (ends o f) h b = absurd (omega arith)
-    one_wrong y (inside {a = a} p d k w) (head q none) h b = absurd (none a d)
-    one_wrong y (inside {r = r} {a = a} p d k w) (inside {a = c} q d' k' w') h b =
-        let i : c ≡ a = one_place y h d' d in one_wrong (within a) w (rw i at w') (at_within h d k) (omega (arith, child_lower r p b k))
-    one_wrong y (inside {r = r} {a = a} p d k w) (behind {a = c} q d' g w') h b =
-        let i : c ≡ a = one_place y h d' d in absurd (bars (within a) w (at_within h d k) (omega (arith, child_lower r p b k)) (tree_inside p b a (rw i at g) k))
-    one_wrong y (behind p d g w) (ends o f) h b = absurd (omega arith)
-    one_wrong y (behind {a = a} p d g w) (head q none) h b = absurd (none a d)
-    one_wrong y (behind {r = r} {a = a} p d g w) (inside {a = c} q d' k w') h b =
-        let i : a ≡ c = one_place y h d d' in absurd (bars (within c) w' (at_within h d' k) (omega (arith, child_lower r p b k)) (tree_inside p b c (rw i at g) k))
-    one_wrong y (behind {r = r} {a = a} p d g w) (behind {a = c} q d' g' w') h b =
-        let i : c ≡ a = one_place y h d' d in one_wrong (beyond y a) w (rw i at w') (at_beyond h d) (omega (arith, next_lower r p b))
+    one_wrong y w w' h b = one_at y w w' refl refl refl refl h b
 
   -- ---- so of the sheet's forest and the type at a row of it
 

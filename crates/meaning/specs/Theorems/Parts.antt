@@ -41,11 +41,17 @@ module _ (s : List ℕ) (e : shapely s ≡ true) where
 
   inner_row : (t : TypeRow) (r i : ℕ) → model_of i ≡ model_form t i model_of → Side t r → Inner r i
   unfolding Side model_form
+  inner_row TypeRow.none r i e h = elim h [ ]
+  inner_row TypeRow.empty r i e h = elim h [ ]
+  inner_row TypeRow.text r i e h = elim h [ ]
+  inner_row TypeRow.bool r i e h = elim h [ ]
+  inner_row (TypeRow.label n q) r i e h = elim h [ ]
   inner_row (TypeRow.seq p q) r i e (inl h) = let w = any_word (model_of q) in record { before = []; behind = w.0; within = λ u x. rw e (w_seq (rw (← h) at x) w.1) }
   inner_row (TypeRow.seq p q) r i e (inr h) = let w = any_word (model_of p) in record { before = w.0; behind = []; within = λ u x. rw (e, append-nil u) (w_seq w.1 (rw (← h) at x)) }
   inner_row (TypeRow.choice p q) r i e (inl h) = record { before = []; behind = []; within = λ u x. rw (e, append-nil u) (w_left (rw (← h) at x)) }
   inner_row (TypeRow.choice p q) r i e (inr h) = record { before = []; behind = []; within = λ u x. rw (e, append-nil u) (w_right (rw (← h) at x)) }
   inner_row (TypeRow.star p) r i e h = record { before = []; behind = []; within = λ u x. rw e (w_more (rw (← h) at x) w_none) }
+  inner_row (TypeRow.name x) r i e h = elim h [ ]
 
   inner : (r i : ℕ) → Side (type_form (S.type_row i)) r → Inner r i
   inner r i x = inner_row (type_form (S.type_row i)) r i (model_at_row (λ i. type_form (S.type_row i)) (shaped_lower s e) i) x

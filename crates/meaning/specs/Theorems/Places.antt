@@ -7,7 +7,7 @@ use Rattle.std.proofs.Common.{◌∙◌, ap, inl, inr, arith, eq-eqb, ne_eqb}
 use Rattle.std.proofs.Math.Path.{subst⁻¹, fun_ext}
 use Rattle.std.proofs.lemmas.Bool.{false≢true}
 use mathlib.Core.List.{List, [], ◌∷◌, ◌++◌, append_assoc, eq-nil-or-concat, concat-eq-append}
-use Rattle.std.proofs.Math.Logic.{Iff·trans}
+use Rattle.std.proofs.Math.Logic.Iff
 use Rattle.meaning.specs.Tests.{some, in_table}
 use Rattle.meaning.specs.Sheet.{Cells, Script, script_of}
 use Rattle.meaning.specs.Kinds.{TypeRow, type_form}
@@ -53,9 +53,14 @@ use Rattle.meaning.specs.Laws.Apart.{
   Labelled,
   Once,
   View,
+  v_none,
+  v_empty,
   v_text,
   v_bool,
   v_label,
+  v_seq,
+  v_choice,
+  v_star,
   v_name,
   view,
   ty_at_row,
@@ -81,11 +86,17 @@ module _ (names : ℕ → Named) where
 
   text_head : {w : Text} (h : Head) (τ : Ty) → Of names (ty_of_head h τ) (only (Tree.text w)) → h ≡ Head.text
   text_head Head.text τ of_text = refl
+  text_head Head.bool τ i = elim i [ ]
+  text_head (Head.label n) τ i = elim i [ ]
 
   bool_head : {b : Bool} (h : Head) (τ : Ty) → Of names (ty_of_head h τ) (only (Tree.bool b)) → h ≡ Head.bool
+  bool_head Head.text τ i = elim i [ ]
   bool_head Head.bool τ of_bool = refl
+  bool_head (Head.label n) τ i = elim i [ ]
 
   node_head : {n : ℕ} {f : Forest} (h : Head) (τ : Ty) → Of names (ty_of_head h τ) (only (Tree.node n f)) → (h ≡ Head.label n) × Of names τ f
+  node_head Head.text τ i = elim i [ ]
+  node_head Head.bool τ i = elim i [ ]
   node_head (Head.label n) τ (of_label i) = (refl, i)
 
   -- a tree is of an atom's type exactly if it has its head, and its children are of its content
@@ -138,15 +149,25 @@ module _ (row : ℕ → Cells) (name_row : ℕ → ℕ) (lower : Lower row) (lab
 
   place_row : (a : ℕ) (t : TypeRow) → View (row a) t → Atomic t → (f : Forest) → Of names (ty_form t (ty_at form)) f ↔ Of names (place_ty a) f
   unfolding ty_form
+  place_row a t v_none x f = elim x [ ]
+  place_row a t v_empty x f = elim x [ ]
   place_row a t (v_text e) x f = rw e (λ i. i, λ i. i)
   place_row a t (v_bool e) x f = rw e (λ i. i, λ i. i)
   place_row a t (v_label e) x f = rw e (λ i. i, λ i. i)
+  place_row a t (v_seq e) x f = elim x [ ]
+  place_row a t (v_choice e) x f = elim x [ ]
+  place_row a t (v_star e) x f = elim x [ ]
   place_row a t (v_name e) x f = rw (e, labelled a e) (λ i. of_opened names i, λ i. of_name i)
 
   acting_row : (a : ℕ) (t : TypeRow) → View (row a) t → Atomic t → (n : ℕ) → head_at row name_row a ≡ Head.label n → (i : ℕ) × (acting row name_row a ≡ row i) × ((row i).kind ≡ 4)
+  acting_row a t v_none x n h = elim x [ ]
+  acting_row a t v_empty x n h = elim x [ ]
   acting_row a t (v_text e) x n h = let g : Head.text ≡ Head.label n = rw e at h in let z : ◌≡◌ {A = ℕ} 0 1 = cc in absurd (omega arith)
   acting_row a t (v_bool e) x n h = let g : Head.bool ≡ Head.label n = rw e at h in let z : ◌≡◌ {A = ℕ} 0 1 = cc in absurd (omega arith)
   acting_row a t (v_label e) x n h = (a, rw e, e)
+  acting_row a t (v_seq e) x n h = elim x [ ]
+  acting_row a t (v_choice e) x n h = elim x [ ]
+  acting_row a t (v_star e) x n h = elim x [ ]
   acting_row a t (v_name e) x n h = (name_row (row a).p, rw e, labelled a e)
 
   -- a type, and its model over its rows
@@ -233,7 +254,7 @@ module _ (row : ℕ → Cells) (name_row : ℕ → ℕ) (lower : Lower row) (lab
     in_is_of r f x = let s = rows_below (suc r) r (omega arith) in (in_of s f x, of_in s f x)
 
     lang_is_of : (nx : ℕ → Set) (r : ℕ) → Wired nx (model_in row name_row r) ends → (f : Forest) → Each f → Lang M nx (start (model_in row name_row r)) f ↔ Of names (ty_at form r) f
-    lang_is_of nx r w f x = Iff·trans (places M nx (model_in row name_row r) w f) (in_is_of r f x)
+    lang_is_of nx r w f x = Iff.trans (places M nx (model_in row name_row r) w f) (in_is_of r f x)
 
   -- ---- by the computed sets
 
@@ -252,7 +273,7 @@ module _ (row : ℕ → Cells) (name_row : ℕ → ℕ) (lower : Lower row) (lab
     admits_each : (r : ℕ) (f : Forest) → Each Suits f → Admits row name_row f (model_in row name_row r) (start (model_in row name_row r)) ↔ Of names (ty_at form r) f
     admits_each r f x =
         let m = model_in row name_row r in
-        Iff·trans (admits_lang f m (start m)) (lang_is_of Suits (next m) r (model_wired row name_row lower once r) f x)
+        Iff.trans (admits_lang f m (start m)) (lang_is_of Suits (next m) r (model_wired row name_row lower once r) f x)
 
     mutual
       unfolding Fits
@@ -279,7 +300,7 @@ module _ (row : ℕ → Cells) (name_row : ℕ → ℕ) (lower : Lower row) (lab
 
     admits_by_each : (r : ℕ) → Wired nx (model_in row name_row r) ends → (f : Forest) → Each SuitsBy f
         → AdmitsBy (head_at row name_row) inner nx f (start (model_in row name_row r)) ↔ Of names (ty_at form r) f
-    admits_by_each r w f x = Iff·trans (admits_by_lang (head_at row name_row) inner nx f (start (model_in row name_row r))) (lang_is_of SuitsBy nx r w f x)
+    admits_by_each r w f x = Iff.trans (admits_by_lang (head_at row name_row) inner nx f (start (model_in row name_row r))) (lang_is_of SuitsBy nx r w f x)
 
     content_by : (a : ℕ) → Atomic (form a) → (n : ℕ) → head_at row name_row a ≡ Head.label n → (f : Forest) → Each SuitsBy f
         → AdmitsBy (head_at row name_row) inner nx f (inner a) ↔ Of names (content_ty a) f

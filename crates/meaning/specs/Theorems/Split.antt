@@ -28,9 +28,9 @@ use Rattle.meaning.specs.Theorems.ReadBack.{given_back}
 use Rattle.meaning.specs.Theorems.Single.{one_load}
 use Rattle.meaning.specs.Theorems.Sound.{result_grove}
 use Rattle.meaning.specs.Theorems.Sound.Written.{loads_shapely, given_writable}
-use Closed.{statement-closed}
-use Levels.{UpTo, SameText, itself, Went, Ended, finishes, is_stuck, up-settles, Scopes, same, of_places, up-statement}
-use Texts.{texts-same}
+use Closed.{statement_closed}
+use Levels.{UpTo, SameText, itself, Went, Ended, finishes, is_stuck, up_settles, Scopes, same, of_places, up_statement}
+use Texts.{texts_same}
 
 -- ---- iter on a joined forest: the walk on the first, then that on the second, then what they give, joined
 
@@ -183,7 +183,7 @@ module _ (S : Script) (byte : ℕ → ℕ) (γ : Env) (i p : ℕ) (is : statemen
 module _ {w : Quiet Forest} {v : Verdict Forest} {u : ℕ} where
   raised : {w' : Quiet Forest} → UpTo w w' → Walked w v u → Went v → Walked w' v u × Ended v
   raised k t went =
-      let r = up-settles k t.settles went in
+      let r = up_settles k t.settles went in
       (record { purse = t.purse; left = t.left; settles = r.0; spent = t.spent }, r.1)
 
 -- row i anywhere: a walk of it from d levels of depth, in the scope γ of n places, that stops neither for fuel nor for depth
@@ -194,15 +194,15 @@ module _ (S : Script) (byte : ℕ → ℕ) (n i : ℕ) where
     pub walked : Walked (statement S byte d γ i f) v u
     pub went : Went v
 
-  as_deep : (γ' : Env) → length γ' ≡ n → statement-closed S n most_depth i ≡ true
+  as_deep : (γ' : Env) → length γ' ≡ n → statement_closed S n most_depth i ≡ true
       → {d : ℕ} {γ : Env} {f : Forest} {v : Verdict Forest} {u : ℕ} → Here d γ f v u
       → Walked (statement S byte most_depth γ' i f) v u × Ended v
   as_deep γ' e closed {d} {γ} {f} h =
-      raised (up-statement S byte byte (λ j. itself byte (query_at S j)) n d most_depth h.levels γ γ' i f
+      raised (up_statement S byte byte (λ j. itself byte (query_at S j)) n d most_depth h.levels γ γ' i f
       (of_places h.places e closed)) h.walked h.went
 
   -- an iter that names no variable of its scope: three walks, in scopes and from depths of their own
-  pub split_inside : {p : ℕ} → statement_at S i ≡ Statement.iter p → statement-closed S n most_depth i ≡ true
+  pub split_inside : {p : ℕ} → statement_at S i ≡ Statement.iter p → statement_closed S n most_depth i ≡ true
       → {d d₁ d₂ : ℕ} {γ γ₁ γ₂ : Env} {f g : Forest} {v v₁ v₂ : Verdict Forest} {u u₁ u₂ : ℕ} → Here d γ (f ⊕ g) v u → Here d₁ γ₁ f v₁ u₁
       → Here d₂ γ₂ g v₂ u₂ → Joins v₁ u₁ v₂ u₂ v u
   split_inside {p} is closed {γ = γ} {f = f} {g = g} whole first second =
@@ -315,8 +315,8 @@ half_walk : {s s' : List ℕ} → Loads s done → Alike s s'
     → UpTo (run_walk (sheet_of s')) (statement (script_of s) (grove_of s).byte most_depth [] (script_of s).main (forest_of (grove_of s')))
 unfolding run_walk sheet_of
 half_walk {s} {s'} loads k = rw k.script
-    (up-statement (script_of s) (grove_of s').byte (grove_of s).byte
-    (texts-same s (loads_shapely loads) (grove_of s').byte (grove_of s).byte k.pool) 0 most_depth most_depth (omega arith) [] []
+    (up_statement (script_of s) (grove_of s').byte (grove_of s).byte
+    (texts_same s (loads_shapely loads) (grove_of s').byte (grove_of s).byte k.pool) 0 most_depth most_depth (omega arith) [] []
     (script_of s).main (forest_of (grove_of s')) (same refl))
 
 module _ {s s₁ s₂ : List ℕ} {R R₁ R₂ : Reply} where

@@ -23,7 +23,7 @@ pub mod Ties
 pub mod Stated
 pub mod Slips
 pub mod Trials
-use Sheets.{Row, row, joined, s1, s5, s6, s6-star, s7, s8, s8-star, s9, s10, s11, s12, loop}
+use Sheets.{Row, row, joined, s1, s5, s6, s6_star, s7, s8, s8_star, s9, s10, s11, s12, loop}
 use Ties.{untied}
 use Ties.{tie as tie-of}
 use Stated.{
@@ -92,7 +92,7 @@ P5 = Does s5 1 nil []
 
 -- "a*, a" is tied; (a*)* is not
 abbrev pub P6 : Type 0
-P6 = Tie (script_of s6) 2 5 × Loads s6 (refused (tie 2 5)) × Untied (script_of s6-star) × Loads s6-star done
+P6 = Tie (script_of s6) 2 5 × Loads s6 (refused (tie 2 5)) × Untied (script_of s6_star) × Loads s6_star done
 
 -- a* lies in (a|b)*, not the reverse, for b is of the one and not of the other; and so says a check of skip
 abbrev pub a* : Ty
@@ -110,7 +110,7 @@ P7 = ((names : ℕ → Named) → Within names a* a|b*)
 
 -- X = a[X] is Barren; X = a[X*] is not
 abbrev pub P8 : Type 0
-P8 = Barren (names_in (script_of s8)) 1 × Loads s8 (refused (barren 1)) × Fertile (names_in (script_of s8-star)) 1 × Loads s8-star done
+P8 = Barren (names_in (script_of s8)) 1 × Loads s8 (refused (barren 1)) × Fertile (names_in (script_of s8_star)) 1 × Loads s8_star done
 
 -- children on a text is Stuck, 1 unit
 abbrev pub P9 : Type 0
@@ -222,10 +222,10 @@ unfolding s5 runs
 p5 = does ok5 4095 refl refl refl refl
 
 p6 : P6
-unfolding s6 s6-star shape ties
+unfolding s6 s6_star shape ties
 p6 =
     let t : Tie (script_of s6) 2 5 = tie-of (script_of s6) 2 5 refl refl refl in
-    (t, is_tied refl (no_names s6 refl) t, untied (script_of s6-star) refl, loads s6-star refl refl refl)
+    (t, is_tied refl (no_names s6 refl) t, untied (script_of s6_star) refl, loads s6_star refl refl refl)
 
 -- ---- P7
 
@@ -278,17 +278,17 @@ lowest_X : LowestBarren (script_of s8) 1
 unfolding s8 tables
 lowest_X = record { is_name = refl; barren = none_of_X; lowest = λ y t l. let h = table_low 1 y t in absurd (omega arith) }
 
-some_of_X : Fertile (names_in (script_of s8-star)) 1
-unfolding s8-star checks
+some_of_X : Fertile (names_in (script_of s8_star)) 1
+unfolding s8_star checks
 some_of_X = (only (leaf a), of_name (of_label of_none))
 
 p8 : P8
-unfolding s8 s8-star shape ties
+unfolding s8 s8_star shape ties
 p8 = (
   none_of_X,
   is_barren refl lowest_X,
   some_of_X,
-  sound refl (one_name s8-star refl some_of_X) (untied (script_of s8-star) refl),
+  sound refl (one_name s8_star refl some_of_X) (untied (script_of s8_star) refl),
 )
 
 -- ---- P9 to P12

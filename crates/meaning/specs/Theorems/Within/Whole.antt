@@ -202,11 +202,11 @@ module _ (at : ℕ → Ty) where
     in_of (in_atom i) (l_bool e) = rw e at i
     in_of (in_atom i) (l_label e) = rw e at i
     in_of (in_atom i) (l_name e) = rw e at i
-    in_of (in_seq i j) (l_seq p q) = of_seq (in_of i p) (in_of j q)
-    in_of (in_left i) (l_choice p q) = of_left (in_of i p)
-    in_of (in_right i) (l_choice p q) = of_right (in_of i q)
+    in_of (in_seq i j) (l_seq {τ = τ} {σ = σ} p q) = of_seq (in_of {τ = τ} i p) (in_of {τ = σ} j q)
+    in_of (in_left i) (l_choice {τ = τ} {σ = σ} p q) = of_left (in_of {τ = τ} i p)
+    in_of (in_right i) (l_choice {τ = τ} {σ = σ} p q) = of_right (in_of {τ = σ} i q)
     in_of in_none (l_star p) = of_none
-    in_of (in_more i j) (l_star p) = of_more (in_of i p) (in_of j (l_star p))
+    in_of (in_more i j) (l_star {τ = τ} p) = of_more (in_of {τ = τ} i p) (in_of {τ = Ty.star τ} j (l_star p))
 
 -- ---- what a point of a type admits
 
@@ -238,6 +238,8 @@ module _ (names : ℕ → Named) where
 
   of_inside : {α : Ty} {n : ℕ} {f : Forest} → Atomic α → Of names α (only (Tree.node n f)) → Of names (inside_ty α) f
   unfolding atom_of
+  of_inside is_text x = elim x [ ]
+  of_inside is_bool x = elim x [ ]
   of_inside is_label (of_label i) = i
   of_inside is_name (of_name (of_label i)) = i
 

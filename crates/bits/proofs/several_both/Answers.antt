@@ -1,0 +1,24 @@
+use Rattle.std.proofs.Common.{rules}
+use borrow.Author.Tests.{le-leb, lt-leb}
+use native.Mathlib.Omega.{arith}
+use mathlib.Core.Path.{◌≡◌, sym, ap}
+use Prim.Native.Nat.{◌+◌, ◌-◌, ◌*◌}
+use Rattle.bits.proofs.Found.{count_none, count_word, count_zero}
+use Rattle.bits.specs.Counts.{count_to, count_more}
+use Rattle.bits.specs.Sets.{in_both}
+use Rattle.bits.proofs.several_both.Goals as goal
+
+pub loop-w-init : goal.loop-w-init
+loop-w-init c = (search rules, sym (count_none c.args.t.now c.args.k c.args.u.now c.args.j), search rules)
+
+pub returns-then-n-gt1 : goal.returns-then-n-gt1
+returns-then-n-gt1 c = sym (le-leb 2 (count_to (in_both c.args.t.now c.args.k c.args.u.now c.args.j) 576) (omega (arith, count_more (in_both c.args.t.now c.args.k c.args.u.now c.args.j) 576 {m = 64 * (c.loop-w.w + 1)} (omega arith), count_word c.args.t.now c.args.k c.args.u.now c.args.j c.loop-w.w c.both-common.result c.both-common.ensures c.both-common.type_inv, c.ones_of-n.ensures, c.loop-w.invariant.1, c.if-n-gt1.true)))
+
+pub loop-w-preserved-else-n-gt1 : goal.loop-w-preserved-else-n-gt1
+loop-w-preserved-else-n-gt1 c = (search rules, omega (arith, count_word c.args.t.now c.args.k c.args.u.now c.args.j c.loop-w.w c.both-common.result c.both-common.ensures c.both-common.type_inv, c.ones_of-n.ensures, c.loop-w.invariant.1), search rules)
+
+pub loop-w-preserved : goal.loop-w-preserved
+loop-w-preserved c = (search rules, omega (arith, count_zero c.args.t.now c.args.k c.args.u.now c.args.j c.loop-w.w c.both-common.result c.both-common.ensures c.if-common-ne0.false, c.loop-w.invariant.1), search rules)
+
+pub returns : goal.returns
+returns c = let e : c.loop-w.w ≡ 9 = omega arith in sym (lt-leb 2 (count_to (in_both c.args.t.now c.args.k c.args.u.now c.args.j) 576) (omega (arith, c.loop-w.invariant.1, ap (λ w. count_to (in_both c.args.t.now c.args.k c.args.u.now c.args.j) (64 * w)) e)))

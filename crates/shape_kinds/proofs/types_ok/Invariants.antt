@@ -1,0 +1,11 @@
+-- `shape_kinds::types_ok` meets its contract: after i turns the first i rows pass.
+use Prim.Native.Nat.{◌-◌}
+use Rattle.meaning.specs.Laws.Turns.{Passed}
+use Rattle.shape_kinds.proofs.RowTests.{type_test}
+use Rattle.shape_kinds.proofs.types_ok.Given as goal
+
+abbrev pub invariant-loop-i : goal.invariant-loop-i
+invariant-loop-i l = Passed (type_test l.s) l.l.types l.i
+
+abbrev pub decreases-loop-i : goal.decreases-loop-i
+decreases-loop-i l = l.l.types - l.i

@@ -1,0 +1,10 @@
+-- `type_rows::written::write_out` meets its contract. The loop's invariant (`Writing`): the rows above i are written, those above `free` handed out.
+use Rattle.type_rows.specs.Grown.{type_in}
+use Rattle.type_rows.specs.Writing.{Writing}
+use Rattle.type_rows.proofs.written.write_out.Given as goal
+
+abbrev pub invariant-loop-free : goal.invariant-loop-free
+invariant-loop-free l = Writing (type_in l.s l.work l.used) l.found l.own l.from l.free l.i
+
+abbrev pub decreases-loop-free : goal.decreases-loop-free
+decreases-loop-free l = l.i
