@@ -5,7 +5,7 @@ use Rattle.meaning.specs.Sheet.{row3, script_of}
 use Rattle.meaning.specs.Kinds.{TypeRow}
 use Rattle.meaning.specs.Shape.{shapely}
 use Rattle.meaning.specs.Laws.Shaped.{seq_row, choice_row, star_row, few_types}
-use Rattle.meaning.specs.Laws.Apart.{Side, View, v_seq, v_choice, v_star, view, shaped_lower, shaped_once}
+use Rattle.meaning.specs.Laws.Apart.{Side, View, v_none, v_empty, v_text, v_bool, v_label, v_seq, v_choice, v_star, v_name, view, shaped_lower, shaped_once}
 use Rattle.sheet.specs.declared.Layout.{Layout}
 use Rattle.sheet.specs.Laid.{Laid}
 use Rattle.type_places.specs.Tables.{row_form, Rows, Tables, Free, Wires}
@@ -16,6 +16,12 @@ module _ (s : List ℕ) (e : shapely s ≡ true) where
   side_low i j x = go (view ((script_of s).type_row i)) x
     where
       go : {t : TypeRow} → View ((script_of s).type_row i) t → Side t j → 1 ≤ j
+      go v_none z = elim z [ ]
+      go v_empty z = elim z [ ]
+      go (v_text _) z = elim z [ ]
+      go (v_bool _) z = elim z [ ]
+      go (v_label _) z = elim z [ ]
+      go (v_name _) z = elim z [ ]
       go (v_seq k) (inl z) = rw z at (seq_row s e i k).0.low
       go (v_seq k) (inr z) = rw z at (seq_row s e i k).1.low
       go (v_choice k) (inl z) = rw z at (choice_row s e i k).0.low
