@@ -6,7 +6,7 @@ use Prim.Native.Nat.{ℕ, ◌+◌, ◌*◌, ◌≤◌, ◌<◌}
 use native.Mathlib.Omega.{arith}
 use borrow.Author.Tests.{lt-leb}
 use lib.ListN.{length, take, drop, length-append, length-drop}
-use lib.Seq.{take-length}
+use lib.Seq.{length-take-le}
 use Rattle.meaning.specs.Sheet.{need}
 use Rattle.meaning.specs.Shape.{shapely}
 use Rattle.meaning.specs.Bundle.{payload_of, framed, sheet_in, blocks, blocks_for}
@@ -42,9 +42,9 @@ module _ (lent : List ℕ) {b after : List ℕ} {n : ℕ} (opened : Opens b afte
   reads_room e l = rw (opened.by.0, shapes_in, e, need_in, lt-leb n (length lent) l)
 
   pub reads_done : t ≡ true → n ≤ length lent → {bytes : List ℕ}
-      → bytes ≡ take (length (take n after)) (take n after) ++ drop (length (take n after)) lent → replied Done bytes ≡ read b lent
+      → bytes ≡ take n after ++ drop n lent → replied Done bytes ≡ read b lent
   reads_done e l is =
-      ap (replied Done) (is ∙ ap (λ (x : List ℕ). x ++ drop (length (take n after)) lent) (take-length (take n after)) ∙ ap (λ (x : List ℕ). x ++ drop (length x) lent) opened.by.2)
+      ap (replied Done) (is ∙ ap (λ (k : ℕ). take n after ++ drop k lent) (sym (length-take-le n after opened.by.3)) ∙ ap (λ (x : List ℕ). x ++ drop (length x) lent) opened.by.2)
       ∙ sym (read_if b lent opened.by.0 (shapes_in ∙ e) (rw need_in l))
 
 -- ---- the writer

@@ -92,6 +92,12 @@ Parts (TypeRow.name x) j = ⊥
 
 side_part : (t : TypeRow) (j : ℕ) → Side t j → Parts t j
 unfolding Side Parts
+side_part TypeRow.none j x = elim x [ ]
+side_part TypeRow.empty j x = elim x [ ]
+side_part TypeRow.text j x = elim x [ ]
+side_part TypeRow.bool j x = elim x [ ]
+side_part (TypeRow.label _ _) j x = elim x [ ]
+side_part (Rattle.meaning.specs.Kinds.name _) j x = elim x [ ]
 side_part (TypeRow.seq p q) j x = x
 side_part (TypeRow.choice p q) j x = x
 side_part (TypeRow.star p) j x = x
@@ -101,6 +107,11 @@ unfolding Parts
 part_uses c j x = go (view c) x
   where
     go : {t : TypeRow} → View c t → Parts t j → Uses c j
+    go v_none x = elim x [ ]
+    go v_empty x = elim x [ ]
+    go (v_text _) x = elim x [ ]
+    go (v_bool _) x = elim x [ ]
+    go (v_name _) x = elim x [ ]
     go (v_label k) x = inl (k, x)
     go (v_seq k) x = inr (inl (inl k, x))
     go (v_choice k) x = inr (inl (inr k, x))
@@ -159,6 +170,12 @@ raise_low n (TypeRow.name x) i l = omega arith
 
 raise_side : (n : ℕ) (t : TypeRow) (j : ℕ) → Side (raise n t) j → (i : ℕ) × (n + i ≡ j) × Side t i
 unfolding Side raise
+raise_side n TypeRow.none j e = elim e [ ]
+raise_side n TypeRow.empty j e = elim e [ ]
+raise_side n TypeRow.text j e = elim e [ ]
+raise_side n TypeRow.bool j e = elim e [ ]
+raise_side n (TypeRow.label _ _) j e = elim e [ ]
+raise_side n (Rattle.meaning.specs.Kinds.name _) j e = elim e [ ]
 raise_side n (TypeRow.seq p q) j (inl e) = (p, e, inl refl)
 raise_side n (TypeRow.seq p q) j (inr e) = (q, e, inr refl)
 raise_side n (TypeRow.choice p q) j (inl e) = (p, e, inl refl)

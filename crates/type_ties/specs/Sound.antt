@@ -211,7 +211,7 @@ pub loads_barren : {s : List ℕ} {x : ℕ} → shapely s ≡ true → SaysBarre
 loads_barren e b n = reply.Loads.is_barren e (b.lowest n)
 
 pub loads_tie : {s : List ℕ} {x : ℕ} {r : Tied} → shapely s ≡ true → SaysBarren s x → x ≡ 0 → SaysTie s r → (r.row ≡ 0 → ⊥) → Loads s (Answer.refused (reply.Refusal.tie r.row r.rival))
-loads_tie e b z t n = reply.Loads.is_Tied e (b.none z) (t.lowest n)
+loads_tie e b z t n = reply.Loads.is_tied e (b.none z) (t.lowest n)
 
 pub loads_sound : {s : List ℕ} {x : ℕ} {r : Tied} → shapely s ≡ true → SaysBarren s x → x ≡ 0 → SaysTie s r → r.row ≡ 0 → Loads s Answer.done
 loads_sound e b z t n = reply.Loads.sound e (b.none z) (t.none n)

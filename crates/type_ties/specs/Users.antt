@@ -118,6 +118,12 @@ module _ (s : List ℕ) (e : shapely s ≡ true) where
       at_side z = rw z y
 
       go : (t : TypeRow) → Side t j → has (model_form t i (model_of s)) a ≡ true
+      go TypeRow.none z = elim z [ ]
+      go TypeRow.empty z = elim z [ ]
+      go TypeRow.text z = elim z [ ]
+      go TypeRow.bool z = elim z [ ]
+      go (TypeRow.label _ _) z = elim z [ ]
+      go (TypeRow.name _) z = elim z [ ]
       go (TypeRow.seq p q) (inl z) = or_left (has (model_of s q) a) (at_side z)
       go (TypeRow.seq p q) (inr z) = or_right (has (model_of s p) a) (at_side z)
       go (TypeRow.choice p q) (inl z) = or_left (has (model_of s q) a) (at_side z)

@@ -1,0 +1,10 @@
+-- Made by tools/cycle from tools/answers/fit/of_type: change that, and run tools/proofs fit.
+-- `fit::of_type` meets its contract: the walk over the tables is right (Whole).
+use Rattle.fit.proofs.Whole.{walked, of_type}
+use Rattle.fit.proofs.of_type.Goals as goal
+
+pub trees-requires : goal.trees-requires
+trees-requires c = (c.requires.told.ready, walked c.requires.told c.requires.wired)
+
+pub returns : goal.returns
+returns c = of_type c.requires.told c.trees.result c.trees.ensures

@@ -1,0 +1,13 @@
+-- Made by tools/cycle from tools/answers/type_ties/tie_in: change that, and run tools/proofs type_ties.
+-- `type_ties::tie_in` meets its contract: no two places of one head, or the lowest tie of the points.
+use Rattle.type_ties.specs.Sound.{says_apart, says_tie}
+use Rattle.type_ties.proofs.tie_in.Goals as goal
+
+pub returns-then-apart : goal.returns-then-apart
+returns-then-apart c = says_apart c.requires.s_value (c.apart.ensures.yes c.if-apart.true)
+
+pub tie-requires : goal.tie-requires
+tie-requires c = record { s_value = c.requires.s_value; laid = c.requires.laid; classes = c.requires.by_index.1.classes }
+
+pub returns : goal.returns
+returns c = says_tie c.requires.laid c.requires.s_value c.requires.by_index.1 c.tie.ensures
