@@ -74,8 +74,8 @@ fn walk_main(s: &[u8], l: Layout, work: &mut [u8]) -> Answer
 // How an end that is no forest is called.
 fn stopped(why: Stop, fuel: usize) -> Ran
     requires { left_of why ≤ fuel }
-    ensures* { λ r. ⌜ ((s lent result : List ℕ) → Begun s lent → fuel ≡ (sheet_of s).run_fuel
-        → Stopped (run_walk (sheet_of s)) (sheet_of s).run_fuel why → Says s lent result r result) ⌝ }
+    ensures { (s lent rows : List ℕ) → Begun s lent → fuel ≡ (sheet_of s).run_fuel
+        → Stopped (run_walk (sheet_of s)) (sheet_of s).run_fuel why → Says s lent rows result rows }
 {
     match why {
         Stop::Fuel => Ran::Fuel(fuel),
@@ -117,7 +117,7 @@ fn walked(s: &[u8], l: Layout, work: &mut [u8], res: &mut [u8]) -> Ran
 // What a run says where too few rows are lent: 3 and 4 come before Scratch.
 fn unwalked(s: &[u8], l: Layout) -> Ran
     requires { (shapely s.now ≡ true) × (Laid s.now l) }
-    ensures* { λ r. ⌜ ((lent result : List ℕ) → rows_lent lent < l.rows + l.run_fuel → Says s.now lent result r result) ⌝ }
+    ensures { (lent rows : List ℕ) → rows_lent lent < l.rows + l.run_fuel → Says s.now lent rows result rows }
 {
     match type_ties::sound(s, l) {
         Soundness::Barren(x) => Ran::Barren(x),

@@ -1,2 +1,0 @@
--- An answer of the check's that is not Done.
-pub mod NotDone
