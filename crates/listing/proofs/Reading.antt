@@ -1,15 +1,9 @@
 -- The reader, lent room for the largest sheet, and an answer of it that is not Done.
 use Prim.Native.Nat.{ℕ, ◌≤◌}
 use mathlib.Core.Path.{◌≡◌, ap, ◌∙◌}
-use mathlib.Core.List.{List, [], ◌∷◌}
-use mathlib.Core.Logic.{⊎_elim}
+use mathlib.Core.List.{List}
 use native.Mathlib.Omega.{arith}
 use lib.ListN.{length, take, replicate, length-replicate}
-use denote.Enum.Declared.{tag_of}
-use types.Run.{OneOf}
-use Rattle.bundle.specs.contracts.Copied.{the_type}
-use Rattle.bundle.specs.declared.Copied.{Copied}
-use Rattle.bundle.specs.declared.Copied.TheVariants.{Done}
 use Rattle.bundle.specs.Reads.{largest, Held}
 use Rattle.meaning.specs.Sheet.{need}
 use Rattle.listing.specs.declared.Listed.{Listed}
@@ -17,9 +11,6 @@ use Rattle.listing.specs.Lists.{SheetTold, Lists, sheet_lists}
 
 pub roomy : largest ≤ length (replicate {A = ℕ} 44704 0)
 roomy = omega (arith, length-replicate {A = ℕ} 44704 0)
-
-pub not_done : (r : Copied) → OneOf (1 ∷ 2 ∷ 3 ∷ []) (tag_of the_type r) → r ≡ Done → ⊥
-not_done r k e = ⊎_elim (λ w. omega arith) (⊎_elim (λ w. omega arith) (λ w. omega arith)) (rw e at k)
 
 -- what is told of the bytes that the reader gave is told of the bundle's sheet
 pub told_of : {b after old new : List ℕ} {l : Listed} → Held b after → {n : ℕ} → n ≡ need after → SheetTold (take n after) old new l → Lists b l new

@@ -1,6 +1,5 @@
 -- What the listing of a bundle is: question by question, the text that each answer adds; together `Listing.listing` of what `Listing.Tells` says of the bundle.
-use Rattle.std.specs.Prelude.{ℕ, ◌+◌, ◌≤◌, ◌<◌, ◌≡◌, refl, true, List, [], ◌∷◌, ◌++◌, length, take}
-use Prim.Native.Char.{code}
+use Rattle.std.specs.Prelude.{ℕ, ◌≤◌, ◌<◌, ◌≡◌, refl, true, List, [], ◌∷◌, ◌++◌, length, take}
 use Rattle.std.proofs.Common.{sym, ap, ◌∙◌, subst, append_assoc, arith, length-take}
 use Rattle.std.proofs.lemmas.List.{length-replicate}
 use Rattle.meaning.specs.Words.{rows_lent, word_at}

@@ -1,0 +1,19 @@
+-- Made by tools/cycle from tools/answers/listing.lines/fields2: change that, and run tools/proofs listing.lines.
+-- `listing::lines::fields2` meets its contract: a field, then the others.
+use native.Mathlib.Omega.{arith}
+use mathlib.Core.Path.{sym, ◌∙◌}
+use mathlib.Core.List.{[], ◌∷◌}
+use Rattle.listing.specs.Adds.{adds_then, adds_as, fields_more}
+use Rattle.listing.proofs.lines.fields2.Goals as goal
+
+pub field-mid-requires : goal.field-mid-requires
+field-mid-requires c = omega (arith, c.requires)
+
+pub fields1-requires : goal.fields1-requires
+fields1-requires c = omega (arith, c.requires, c.field-mid.ensures.few, c.field-mid.auto.out)
+
+pub shape_of-out : goal.shape_of-out
+shape_of-out c = c.fields1.auto.out ∙ c.field-mid.auto.out
+
+pub returns : goal.returns
+returns c = record { adds = adds_as (sym (fields_more c.args.a (c.args.b ∷ []))) (adds_then c.field-mid.ensures.adds c.fields1.ensures.adds); few = omega (arith, c.field-mid.ensures.few, c.fields1.ensures.few) }
