@@ -1,5 +1,5 @@
 // What the programs print and read besides the answers: numbers as fields of a line, a result's rows, and a number in an argument.
-ghost use Rattle.std.specs.Prelude.{◌<◌, ◌≤◌, length, IfOk};
+ghost use Rattle.std.specs.Prelude.{◌≡◌, ◌<◌, ◌≤◌, ◌↔◌, length, IfOk, IsTrue};
 
 use std::env::{Env, FillError};
 use std::io::Read;
@@ -136,7 +136,9 @@ pub fn fail<R: Eprint>(rt: &R, what: &[u8], error: io::Error) {
 }
 
 // Has the input ended: asked of a read that has room, since one that fails says so itself.
-pub fn ended(read: usize) -> bool {
+pub fn ended(read: usize) -> bool
+    ensures { IsTrue result ↔ (read ≡ 0) }
+{
     read == 0
 }
 
