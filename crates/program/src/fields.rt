@@ -12,6 +12,7 @@ pub struct Output<'a, P> {
     written: io::Result<()>,
 }
 
+// Bytes as they are.
 pub fn put<P: Print>(out: &mut Output<'_, P>, bytes: &[u8]) {
     if out.written.is_ok() {
         out.written = out.to.write_all(bytes);
