@@ -2,6 +2,6 @@
 // as `apply` lends.
 #![tactic(auto)]
 
-fn main() {
-    program::chukelowa_program_answers();
+fn main(rt: HostRuntime) {
+    program::chukelowa_program_answers(&rt);
 }

@@ -1,6 +1,6 @@
 // The program `apply`: the listing of the bundle on standard input.
 #![tactic(auto)]
 
-fn main() {
-    program::chukelowa_program_apply();
+fn main(rt: HostRuntime) {
+    program::chukelowa_program_apply(&rt);
 }

@@ -1,35 +1,55 @@
 // What the programs print and read besides the answers: numbers as fields of a line, a result's rows, and a number in an argument.
-ghost use Rattle.std.specs.Prelude.{◌<◌};
+ghost use Rattle.std.specs.Prelude.{◌≡◌, ◌<◌, ◌≤◌, ◌↔◌, length, IfOk, IsTrue};
 
-// A number, and a number as a field of a line.
-fn number(x: usize) {
-    io::print_decimal(1, x as u64);
+use std::env::{Env, FillError};
+use std::io::Read;
+use std::{io, str};
+
+// Standard output, and how writing to it went so far: what comes behind a write that failed is let go.
+#[derive(Drop)]
+pub struct Output<'a, P> {
+    to: &'a P,
+    written: io::Result<()>,
 }
 
-pub fn field(x: usize) {
-    io::write_all(1, b" ");
-    number(x);
+// Bytes as they are.
+pub fn put<P: Print>(out: &mut Output<'_, P>, bytes: &[u8]) {
+    if out.written.is_ok() {
+        out.written = out.to.write_all(bytes);
+    }
+}
+
+// A number, and a number as a field of a line.
+fn number<P: Print>(out: &mut Output<'_, P>, x: usize) {
+    if out.written.is_ok() {
+        out.written = out.to.print(x);
+    }
+}
+
+pub fn field<P: Print>(out: &mut Output<'_, P>, x: usize) {
+    put(out, b" ");
+    number(out, x);
 }
 
 // A row of a result: its number and its four words.
-fn row_line(res: &[u8], r: usize)
+fn row_line<P: Print>(out: &mut Output<'_, P>, res: &[u8], r: usize)
     requires { (0 < r) × (r < 65536) }
 {
     let c = forest_rows::any_row(res, r);
-    number(r);
-    field(c.kind as usize);
-    field(c.p);
-    field(c.q);
-    field(c.r);
-    io::write_all(1, b"\n");
+    number(out, r);
+    field(out, c.kind as usize);
+    field(out, c.p);
+    field(out, c.q);
+    field(out, c.r);
+    put(out, b"\n");
 }
 
-pub fn row_lines(res: &[u8], root: usize)
+pub fn row_lines<P: Print>(out: &mut Output<'_, P>, res: &[u8], root: usize)
     requires { root < 65536 }
 {
     let mut r = 1;
     while r <= root {
-        row_line(res, r);
+        row_line(out, res, r);
         r += 1;
     }
 }
@@ -76,44 +96,83 @@ fn decimal(text: &[u8]) -> Rows {
     Rows::Lent(x)
 }
 
+// Room for a word, which is no longer than a path is.
+pub fn word() -> [u8; 4096]
+    ensures { 4096 ≡ length result }
+{
+    [0; 4096]
+}
+
 // The rows that argument `i` says, or `other` where there is none.
-pub fn rows_argument(i: usize, other: usize) -> Rows {
-    let mut text = io::buffer();
-    let n = os::arg(i, &mut text);
-    let error = os::errno();
-    if error == libc::EINVAL {
-        return Rows::Lent(other);
+pub fn rows_argument<R: Env>(rt: &R, i: usize, other: usize) -> Rows {
+    let mut text = word();
+    match rt.arg(i, &mut text) {
+        Ok(n) => decimal(&text[..n]),
+        Err(FillError::NotPresent) => Rows::Lent(other),
+        Err(FillError::TooLong) => Rows::Wrong,
     }
-    if error != 0 {
-        return Rows::Wrong;
+}
+
+// How many arguments there are, the program's own name among them.
+pub fn argument_count<R: Env>(rt: &R) -> usize {
+    for i in 0..usize::MAX {
+        if let Err(FillError::NotPresent) = rt.arg(i, &mut []) {
+            return i;
+        }
     }
-    decimal(&text[..n])
+    usize::MAX
 }
 
 // A line on standard error: how a program is called.
-pub fn usage(words: &[u8]) {
-    io::write_all(2, b"usage: ");
-    io::write_all(2, words);
-    io::write_all(2, b"\n");
+pub fn usage<R: Eprint>(rt: &R, words: &str) {
+    let _ = eprintln!(rt; "usage: {words}");
 }
 
-// Has the input ended: asked after a short count, which is also what a failed read leaves.
-pub fn ended(fd: i32) -> bool {
-    let mut one = [0u8; 1];
-    libc::read(fd, &mut one) == 0
+// A line on standard error: what failed, a name with its bytes escaped where it is no text, and why.
+pub fn fail<R: Eprint>(rt: &R, what: &[u8], error: io::Error) {
+    let _ = match str::from_utf8(what) {
+        Ok(text) => eprintln!(rt; "{text}: {error}"),
+        Err(_) => eprintln!(rt; "{}: {error}", what.escape_ascii()),
+    };
 }
 
-// No call has failed so far: reading an argument that is there, the program's own name, leaves no error.
-pub fn begin() {
-    let mut name = io::buffer();
-    os::arg(0, &mut name);
+// Has the input ended: asked of a read that has room, since one that fails says so itself.
+pub fn ended(read: usize) -> bool
+    ensures { IsTrue result ↔ (read ≡ 0) }
+{
+    read == 0
 }
 
-// Has a write failed since `begin`: only a call that fails sets the error. Says so on standard error.
-pub fn failed(what: &[u8]) -> bool {
-    if os::errno() == 0 {
-        return false;
+// Reads until the bytes are full or the input has ended: how many there are.
+pub fn read_full<I: Read>(input: &mut I, bytes: &mut [u8]) -> io::Result<usize>
+    ensures { IfOk result (λ n. n ≤ length bytes.new) }
+{
+    let mut done = 0;
+    while done < bytes.len() {
+        let read = input.read(&mut bytes[done..])?;
+        if ended(read) {
+            return Ok(done);
+        }
+        done += read;
     }
-    os::fail(what);
-    true
+    Ok(done)
+}
+
+// Standard output, to which no write has failed so far.
+pub fn begin<P: Print>(rt: &P) -> Output<'_, P> {
+    Output {
+        to: rt,
+        written: Ok(()),
+    }
+}
+
+// Has a write failed since `begin`. Says so on standard error.
+pub fn failed<R: Print + Eprint>(out: Output<'_, R>, what: &[u8]) -> bool {
+    match out.written {
+        Ok(()) => false,
+        Err(error) => {
+            fail(out.to, what, error);
+            true
+        }
+    }
 }

@@ -1,0 +1,9 @@
+-- `program::fields::read_full` ends: the room left falls.
+use Rattle.std.proofs.Common.{◌-◌, ◌≤◌, length}
+use Rattle.program.proofs.fields.read_full.Given as goal
+
+abbrev pub invariant-loop-done : goal.invariant-loop-done
+invariant-loop-done g l = l.done ≤ length l.bytes
+
+abbrev pub decreases-loop-done : goal.decreases-loop-done
+decreases-loop-done g l = length l.bytes - l.done
