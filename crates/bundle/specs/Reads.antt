@@ -1,5 +1,5 @@
 -- What the reader's answer says of a bundle. Lent as many bytes as the largest sheet asks for, it never says Room.
-use Rattle.std.specs.Prelude.{◌≡◌, refl, Bool, true, false, List, ◌++◌, ℕ, ◌+◌, ◌*◌, ◌≤◌, ◌<◌, leb, length, take, drop, get_or}
+use Rattle.std.specs.Prelude.{◌≡◌, refl, Bool, true, false, List, ◌++◌, ℕ, ◌*◌, ◌≤◌, ◌<◌, leb, length, take, drop, get_or}
 use Rattle.std.proofs.Common.{sym, ap, ◌∙◌, arith, le-leb, length-append, length-take, take_at}
 use Rattle.std.proofs.Math.ListN.{get_or-append}
 use Rattle.meaning.specs.Limits.{payload_words, most_blocks}

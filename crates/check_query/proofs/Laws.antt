@@ -1,7 +1,7 @@
 -- What a query row finds, from what its parts find, by the laws of walks: rows written on the way leave the types of the variables as they were.
 use Prim.Native.Nat.{ℕ, ◌+◌, ◌≤◌}
 use native.Mathlib.Omega.{arith}
-use mathlib.Core.Path.{◌≡◌, refl, sym, ap, ◌∙◌, subst}
+use mathlib.Core.Path.{◌≡◌, sym, ap, ◌∙◌, subst}
 use mathlib.Core.List.{List}
 use lib.ListN.{get_or}
 use Rattle.meaning.specs.Sheet.{script_of}

@@ -1,6 +1,6 @@
 -- The reply that an answer of `check` is: this paper's refusal or Done, its units, and the working rows afterwards; and what is said of each end of the check's walk.
-use Rattle.std.specs.Prelude.{ℕ, ◌+◌, ◌*◌, ◌≤◌, ◌<◌, ◌≡◌, refl, true, List, [], length, replicate}
-use Rattle.std.proofs.Common.{sym, ap, ◌∙◌, subst, arith}
+use Rattle.std.specs.Prelude.{ℕ, ◌+◌, ◌≤◌, ◌<◌, ◌≡◌, refl, true, List, [], length, replicate}
+use Rattle.std.proofs.Common.{ap, ◌∙◌, arith}
 use Rattle.meaning.specs.Words.{rows_lent, zeroed}
 use Rattle.meaning.specs.Sheet.{script_of, sheet_of}
 use Rattle.meaning.specs.Types.{Ty}

@@ -2,7 +2,7 @@
 use Prim.Native.Nat.{ℕ, zero, suc, ◌+◌, ◌*◌, ◌-◌, ◌≤◌, ◌<◌}
 use native.Mathlib.Omega.{arith}
 use mathlib.Core.Path.{◌≡◌, refl, sym, ap, ◌∙◌, subst}
-use mathlib.Core.Bool.{Bool, true, false, false≢true}
+use mathlib.Core.Bool.{false}
 use mathlib.Core.List.{List}
 use lib.ListN.{length}
 use Rattle.meaning.specs.Tests.{in_table}
@@ -14,8 +14,7 @@ use Rattle.meaning.specs.Laws.Rows.{node_form, LowRow, LowRows, SameRows, tree_s
 use Rattle.meaning.specs.Theorems.ReadBack.{lent_row}
 use Rattle.walk.specs.Meets.{low_same, same_trans, forest_kept}
 use Rattle.walk.specs.Loop.{Links, gathered}
-use Rattle.sheet.specs.Laid.{Words}
-use Rattle.forest_rows.specs.Rows.{Readable, Pushed, JoinAsks, Wrote, Joined, GatherAsks, Gathered, PickAsks, Picked, Labelled, Sought}
+use Rattle.forest_rows.specs.Rows.{Readable, Pushed, JoinAsks, Joined, GatherAsks, Gathered, PickAsks, Picked, Labelled, Sought}
 use Rattle.forest_rows.specs.Table.{read_next, read_child, read_forest, read_count, forest_none, count_none, push_low, push_forest}
 use Rattle.forest_rows.proofs.Labels.{out_three, pick_yes, pick_count, kept_none, count_kept_none, sought_kept}
 

@@ -1,22 +1,22 @@
 -- The trees with a label: what a row that is read adds to them.
-use Prim.Native.Nat.{ℕ, zero, suc, ◌+◌, ◌≤◌, ◌<◌}
+use Prim.Native.Nat.{ℕ, zero, suc, ◌≤◌, ◌<◌}
 use native.Mathlib.Omega.{arith}
 use mathlib.Core.Path.{◌≡◌, refl, sym, ap, ◌∙◌, subst}
 use mathlib.Core.Bool.{Bool, true, false, false≢true, cond}
 use mathlib.Core.List.{List, [], ◌∷◌}
 use lib.Dec.{eqb}
-use lib.ListN.{length, get_or}
+use lib.ListN.{get_or}
 use borrow.Author.Tests.{eq-eqb, ne_eqb, eqb-true, eqb-false}
 use Rattle.meaning.specs.Tests.{in_table}
 use Rattle.meaning.specs.Sheet.{Cells}
-use Rattle.meaning.specs.Forest.{Tree, Forest, nil, cons, ◌⊕◌, count, text_at, tree_form, forest_at}
+use Rattle.meaning.specs.Forest.{Tree, Forest, nil, cons, count, text_at, tree_form, forest_at}
 use Rattle.meaning.specs.Run.{kept}
 use Rattle.meaning.specs.Laws.Tests.{table_low, table_high}
 use Rattle.meaning.specs.Laws.Rows.{LowRows, SameRows, node_form}
 use Rattle.meaning.specs.Theorems.ReadBack.{lent_row}
 use Rattle.walk.specs.Meets.{forest_kept}
 use Rattle.forest_rows.specs.Rows.{Labelled, Judged, JudgedBy, Sought}
-use Rattle.forest_rows.specs.Table.{read_forest, read_next, forest_none, count_none}
+use Rattle.forest_rows.specs.Table.{read_forest, forest_none}
 
 -- ---- kinds 1 to 3
 

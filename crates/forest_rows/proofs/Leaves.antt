@@ -1,25 +1,23 @@
 -- The leaf evaluators: what is written once its units are paid, and what a forest is seen as.
-use Prim.Native.Nat.{ℕ, zero, suc, ◌+◌, ◌*◌, ◌≤◌, ◌<◌}
+use Prim.Native.Nat.{ℕ, ◌+◌, ◌≤◌, ◌<◌}
 use native.Mathlib.Omega.{arith}
 use mathlib.Core.Path.{◌≡◌, refl, sym, ap, ◌∙◌, subst}
-use mathlib.Core.Bool.{Bool, true, false}
-use mathlib.Core.List.{List, [], ◌∷◌}
-use lib.ListN.{length, get_or}
+use mathlib.Core.Bool.{true, false}
+use mathlib.Core.List.{List}
 use Rattle.meaning.specs.Tests.{in_table}
 use Rattle.meaning.specs.Sheet.{Cells}
-use Rattle.meaning.specs.Forest.{Tree, Forest, nil, cons, only, ◌⊕◌, count, text_at, tree_form, forest_at}
-use Rattle.meaning.specs.Run.{Seen, nothing, many, a_text, a_bool, a_node, seen, kept, copied}
-use Rattle.meaning.specs.Walk.{ret, pay, gives, Settles, done, Quiet, Unasked}
+use Rattle.meaning.specs.Forest.{Tree, Forest, cons, only, count, text_at, tree_form, forest_at}
+use Rattle.meaning.specs.Run.{nothing, many, a_text, a_bool, a_node, seen, kept, copied}
+use Rattle.meaning.specs.Walk.{ret, gives, Settles, done, Unasked}
 use Rattle.meaning.specs.Laws.Forest.{count-⊕}
-use Rattle.meaning.specs.Laws.Rows.{node_form, LowRow, LowRows, SameRows, forest_at_zero}
+use Rattle.meaning.specs.Laws.Rows.{node_form, LowRow, LowRows, forest_at_zero}
 use Rattle.meaning.specs.Laws.Walk.{leads_pay}
 use Rattle.meaning.specs.Theorems.ReadBack.{lent_row}
 use Rattle.walk.specs.Meets.{Roomy, Finished}
 use Rattle.walk.specs.Loop.{Links, gathered, keep_of, Turned}
 use Rattle.sheet.specs.Laid.{Words}
-use Rattle.forest_rows.specs.Rows.{Readable, Pushed, JoinAsks, Wrote, PickAsks, MakeAsks, made}
+use Rattle.forest_rows.specs.Rows.{Pushed, JoinAsks, Wrote, PickAsks, MakeAsks, made}
 use Rattle.forest_rows.specs.Table.{read_next, read_child, read_forest, forest_none, push_low, push_forest}
-use Rattle.forest_rows.proofs.Labels.{out_three}
 
 -- ---- what is written, its copies paid
 

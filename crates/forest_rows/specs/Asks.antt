@@ -1,11 +1,11 @@
 -- What the evaluators hand to the functions of this crate, and what the arms of a `match` on `look` say.
-use Rattle.std.specs.Prelude.{ℕ, ◌+◌, ◌*◌, ◌≤◌, ◌<◌, ◌≡◌, true, false, List}
+use Rattle.std.specs.Prelude.{ℕ, ◌≤◌, ◌<◌, ◌≡◌, true, List}
 use Rattle.std.proofs.Common.{arith, sym, ◌∙◌, subst}
 use Rattle.std.proofs.lemmas.Bool.{false≢true}
 use Rattle.std.proofs.Math.Bool as bool
 use Rattle.meaning.specs.Tests.{in_table}
-use Rattle.meaning.specs.Forest.{Forest, nil, text_at, forest_at}
-use Rattle.meaning.specs.Run.{seen, nothing, many, a_text, a_bool, a_node}
+use Rattle.meaning.specs.Forest.{forest_at}
+use Rattle.meaning.specs.Run.{seen, nothing, many, a_bool}
 use Rattle.meaning.specs.Theorems.ReadBack.{lent_row}
 use Rattle.walk.specs.Meets.{Roomy}
 use Rattle.forest_rows.specs.Rows.{Readable, MakeAsks, SeesBy, Sees}

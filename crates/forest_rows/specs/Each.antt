@@ -1,12 +1,11 @@
 -- The loop of for and iter over lent rows, for any body: how far it is (`Looping`), what a turn asks and gives, and that the whole is meaning's `each`.
-use Rattle.std.specs.Prelude.{ℕ, zero, suc, ◌+◌, ◌*◌, ◌≤◌, ◌<◌, ◌≡◌, refl, Bool, true, false, List, length}
+use Rattle.std.specs.Prelude.{ℕ, ◌+◌, ◌≤◌, ◌<◌, ◌≡◌, refl, List, length}
 use Rattle.std.proofs.Common.{arith, ◌∙◌}
 use Rattle.std.proofs.Math.Path.{sym, ap, subst}
-use Rattle.meaning.specs.Tests.{in_table}
 use Rattle.meaning.specs.Sheet.{Cells}
-use Rattle.meaning.specs.Forest.{Tree, Forest, nil, cons, only, ◌⊕◌, count, tree_form, forest_at}
+use Rattle.meaning.specs.Forest.{Forest, cons, count, tree_form, forest_at}
 use Rattle.meaning.specs.Run.{each}
-use Rattle.meaning.specs.Walk.{Walk, ret, halt, tick, ◌>>=◌, pay, Verdict, gives, Settles, done, Quiet, Unasked}
+use Rattle.meaning.specs.Walk.{ret, ◌>>=◌, gives, Settles, done, Quiet, Unasked}
 use Rattle.meaning.specs.Laws.Rows.{LowRow, LowRows, SameRows, forest_at_zero}
 use Rattle.meaning.specs.Laws.Walk.{Leads, leads_then, leads_tick}
 use Rattle.meaning.specs.Theorems.ReadBack.{lent_row}

@@ -3,7 +3,7 @@ use Rattle.std.specs.Prelude.{ℕ, ◌+◌, ◌*◌, ◌≤◌, ◌<◌, ◌≡�
 use Rattle.std.proofs.Math.Bool as bool
 use Rattle.meaning.specs.Tests.{in_table}
 use Rattle.meaning.specs.Sheet.{Cells}
-use Rattle.meaning.specs.Forest.{Tree, Forest, nil, cons, only, ◌⊕◌, count, text_at, tree_form, forest_at}
+use Rattle.meaning.specs.Forest.{Forest, only, ◌⊕◌, count, text_at, tree_form, forest_at}
 use Rattle.meaning.specs.Run.{seen, nothing, many, a_text, a_bool, a_node, kept, copied}
 use Rattle.meaning.specs.Walk.{Quiet}
 use Rattle.meaning.specs.Laws.Rows.{LowRows, SameRows}

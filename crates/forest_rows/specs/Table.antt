@@ -1,12 +1,12 @@
 -- Laws of lent rows: what a word put reads back as, what a written row says, and what the forest at a row that is read is.
-use Rattle.std.specs.Prelude.{ℕ, zero, suc, ◌+◌, ◌*◌, ◌-◌, ◌/◌, ◌%◌, ◌≤◌, ◌<◌, ◌≡◌, refl, Bool, true, false, List, length, get_or, set}
-use Rattle.std.proofs.Common.{arith, add-one, sym, ◌∙◌, subst, length-set, get_or-set_same, get_or-set_other}
+use Rattle.std.specs.Prelude.{ℕ, zero, suc, ◌+◌, ◌*◌, ◌-◌, ◌/◌, ◌%◌, ◌≤◌, ◌<◌, ◌≡◌, false, List, length, get_or, set}
+use Rattle.std.proofs.Common.{arith, sym, ◌∙◌, subst, length-set, get_or-set_same, get_or-set_other}
 use Rattle.std.proofs.Math.Decide.{dec_le}
 use Rattle.std.proofs.Math.Path.{ap}
 use Rattle.meaning.specs.Tests.{in_table}
 use Rattle.meaning.specs.Words.{word_at}
 use Rattle.meaning.specs.Sheet.{Cells}
-use Rattle.meaning.specs.Forest.{Tree, Forest, nil, cons, count, tree_form, forest_at}
+use Rattle.meaning.specs.Forest.{Tree, nil, cons, count, tree_form, forest_at}
 use Rattle.meaning.specs.Laws.Rows.{LowRow, LowRows, SameRows, tree_same, forest_at_zero, forest_at_suc}
 use Rattle.meaning.specs.Laws.Shaped.{cells}
 use Rattle.meaning.specs.Theorems.ReadBack.{lent_row}

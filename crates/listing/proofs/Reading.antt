@@ -1,4 +1,4 @@
--- The reader, lent room for the largest sheet, and an answer of it that is not Done.
+-- The reader, lent room for the largest sheet.
 use Prim.Native.Nat.{ℕ, ◌≤◌}
 use mathlib.Core.Path.{◌≡◌, ap, ◌∙◌}
 use mathlib.Core.List.{List}

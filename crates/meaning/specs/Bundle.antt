@@ -1,6 +1,6 @@
 -- Bundles (document 01, "Bundles: blocks of 512 bytes"): the one rule by which a sheet is written into blocks, and the five tests of a
 -- bundle that is read.
-use Rattle.std.specs.Prelude.{ℕ, zero, suc, ◌+◌, ◌*◌, ◌-◌, ◌/◌, ◌%◌, Bool, true, false, ◌&&◌, List, [], ◌∷◌, ◌++◌, eqb, leb, get_or, length, take, drop, replicate}
+use Rattle.std.specs.Prelude.{ℕ, zero, suc, ◌+◌, ◌*◌, ◌-◌, ◌/◌, ◌%◌, Bool, true, ◌&&◌, List, [], ◌∷◌, ◌++◌, eqb, leb, length, take, drop}
 use Rattle.meaning.specs.Limits.{block_words, payload_words, most_blocks, check_modulus}
 use Rattle.meaning.specs.Tests.{every}
 use Rattle.meaning.specs.Words.{word_at, word_bytes}

@@ -1,10 +1,10 @@
 -- How a check goes (document 01; FLUX, figures 4 and 13): the type that each row computes, what it pays and what it asks.
 -- Every row: one level of depth, then one unit; then focus, parts, their values, and last the rows written.
-use Rattle.std.specs.Prelude.{ℕ, zero, suc, ◌+◌, ◌<◌, ◌≤◌, Bool, true, false, cond, List, [], ◌∷◌, ◌++◌, eqb, get_or}
+use Rattle.std.specs.Prelude.{ℕ, zero, suc, ◌<◌, ◌≤◌, List, [], ◌∷◌, ◌++◌, eqb, get_or}
 use Rattle.meaning.specs.Limits.{most_depth, most_width}
-use Rattle.meaning.specs.Sheet.{Script, Sheet, Procedure}
+use Rattle.meaning.specs.Sheet.{Script}
 use Rattle.meaning.specs.Kinds.{Query, Test, Statement, query_at, statement_at, present}
-use Rattle.meaning.specs.Types.{Ty, Named, Of, Within, size, Atom, atom_of, declared, names_in}
+use Rattle.meaning.specs.Types.{Ty, Named, Within, size, Atom, atom_of, declared, names_in}
 use Rattle.meaning.specs.Walk.{
   Stop,
   depth,

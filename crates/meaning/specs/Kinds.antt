@@ -1,6 +1,6 @@
 -- What one row says: a view for each table, the kinds in document 01's order ("Tables"). Kinds past the last are `none`; Shape refuses
 -- them.
-use Rattle.std.specs.Prelude.{ℕ, zero, suc, Bool, true, false, cond, List, [], ◌∷◌, eqb, get_or}
+use Rattle.std.specs.Prelude.{ℕ, Bool, true, false, cond, List, [], ◌∷◌, eqb, get_or}
 use Rattle.meaning.specs.Sheet.{Cells, Script}
 
 pub data TypeRow : Type 0 where

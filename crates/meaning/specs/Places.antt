@@ -1,7 +1,7 @@
 -- Places: the atoms of a type by their rows, which of them may stand first, last and next to another, and ties (document 01, "Ties";
 -- deterministic content models, XML 1.0, section 3.2.1).
 -- End is place 0.
-use Rattle.std.specs.Prelude.{ℕ, zero, suc, ◌+◌, ◌<◌, ◌≤◌, ◌≡◌, Bool, true, false, ◌&&◌, ◌||◌, not, cond, List, [], ◌∷◌, ◌++◌, ◌⊎◌, eqb}
+use Rattle.std.specs.Prelude.{ℕ, zero, suc, ◌<◌, ◌≡◌, Bool, true, false, ◌&&◌, ◌||◌, not, cond, List, [], ◌∷◌, ◌++◌, eqb}
 use Rattle.meaning.specs.Tests.{some, in_table}
 use Rattle.meaning.specs.Sheet.{Cells, Script}
 use Rattle.meaning.specs.Kinds.{TypeRow, type_form}

@@ -2,7 +2,7 @@
 -- "Refusals by number").
 -- The order of refusals stands here once: 1, 2, 3, 4, then 12, then the walk, 13 last. Apply goes through the check's order, then 10, then
 -- the run's from 12.
-use Rattle.std.specs.Prelude.{ℕ, zero, ◌+◌, ◌*◌, ◌<◌, ◌≤◌, ◌≡◌, Bool, true, false, List, [], ◌++◌, leb, length, drop}
+use Rattle.std.specs.Prelude.{ℕ, ◌+◌, ◌*◌, ◌<◌, ◌≤◌, ◌≡◌, Bool, true, false, List, [], ◌++◌, leb, length, drop}
 use Rattle.meaning.specs.Limits.{row_words}
 use Rattle.meaning.specs.Tests.{in_table}
 use Rattle.meaning.specs.Words.{rows_lent, zeroed}

@@ -1,12 +1,12 @@
 -- How a run goes (document 01; FLUX, figures 3 and 12): what each row gives, when its units fall due, and where it is stuck.
 -- Every row: one level of depth, then one unit; then the focus is tested, then parts run, then their values are tested, then copies take
 -- their units.
-use Rattle.std.specs.Prelude.{ℕ, zero, suc, ◌+◌, Bool, true, false, cond, List, [], ◌∷◌, ◌++◌, eqb, get_or}
+use Rattle.std.specs.Prelude.{ℕ, zero, suc, Bool, true, false, cond, List, [], ◌∷◌, ◌++◌, eqb, get_or}
 use Rattle.meaning.specs.Limits.{most_depth}
-use Rattle.meaning.specs.Sheet.{Script, Grove, Sheet}
+use Rattle.meaning.specs.Sheet.{Script, Sheet}
 use Rattle.meaning.specs.Kinds.{Query, Test, Statement, query_at, statement_at}
 use Rattle.meaning.specs.Forest.{Text, Tree, Forest, nil, cons, only, ◌⊕◌, count, text_at, equal_bytes, forest_of}
-use Rattle.meaning.specs.Walk.{Stop, depth, stuck, Place, of_query, of_statement, Walk, ret, halt, tick, ◌>>=◌, pay, Quiet}
+use Rattle.meaning.specs.Walk.{depth, stuck, Place, of_query, of_statement, Walk, ret, halt, tick, ◌>>=◌, pay, Quiet}
 
 -- the values of the variables, outermost first
 abbrev pub Env : Type 0

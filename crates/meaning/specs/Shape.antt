@@ -12,7 +12,7 @@ use Rattle.meaning.specs.Limits.{
   most_fuel,
 }
 use Rattle.meaning.specs.Tests.{every, total, in_table}
-use Rattle.meaning.specs.Sheet.{Cells, Procedure, Script, Grove, Sheet, need, sheet_of}
+use Rattle.meaning.specs.Sheet.{Cells, Procedure, Script, Sheet, need, sheet_of}
 use Rattle.meaning.specs.Kinds.{Query, Statement, query_at, statement_at, present}
 
 -- ---- what each word of a row is for

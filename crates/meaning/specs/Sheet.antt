@@ -1,6 +1,6 @@
 -- A sheet: the set of tables, lent as one slice of bytes. Thirteen header words, then the tables, then the pool (document 01, "Bundles"
 -- gives the order; "Tables" the rows).
-use Rattle.std.specs.Prelude.{ℕ, zero, suc, ◌+◌, ◌*◌, ◌-◌, Bool, true, false, cond, List, [], ◌∷◌, get_or, length}
+use Rattle.std.specs.Prelude.{ℕ, ◌+◌, ◌*◌, ◌-◌, cond, List, get_or}
 use Rattle.meaning.specs.Limits.{header_words, type_words, row_words, procedure_words}
 use Rattle.meaning.specs.Tests.{in_table}
 use Rattle.meaning.specs.Words.{word_at}

@@ -1,9 +1,9 @@
 -- Types with names, and what is of a type: FLUX, section 3.1, the least fixed point as an inductive family. Atoms, heads, and the size of a
 -- type written out.
-use Rattle.std.specs.Prelude.{ℕ, zero, suc, ◌+◌, Bool, true, false, List, [], ◌∷◌, eqb}
+use Rattle.std.specs.Prelude.{ℕ, zero, suc, ◌+◌, Bool}
 use Rattle.meaning.specs.Sheet.{Script}
-use Rattle.meaning.specs.Kinds.{TypeRow, Test, type_at}
-use Rattle.meaning.specs.Forest.{Text, Tree, Forest, nil, cons, only, ◌⊕◌}
+use Rattle.meaning.specs.Kinds.{TypeRow, type_at}
+use Rattle.meaning.specs.Forest.{Text, Tree, Forest, nil, only, ◌⊕◌}
 
 pub data Ty : Type 0 where
   empty text bool : Ty

@@ -1,7 +1,7 @@
 -- A walk: what a run or a check does, row by row, before any purse is looked at. Units fall due (`tick`), questions are asked (`ask`), and
 -- a rule may stop it (`halt`).
 -- A purse is laid over it once, here, for run and check alike: `Settles`. Nothing but an empty purse can say Fuel.
-use Rattle.std.specs.Prelude.{ℕ, zero, suc, ◌≡◌}
+use Rattle.std.specs.Prelude.{ℕ, zero, suc}
 
 -- the row whose rule asks, with 1 for a query, 2 for a statement; a declared output: 0 and 0
 pub record Place : Type 0 where

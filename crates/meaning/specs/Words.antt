@@ -1,6 +1,6 @@
 -- Words: 16 bits, low byte first, in lists of bytes. Lent slices counted in rows (document 01, "Tables": "a lent slice counts whole rows
 -- only, and at most 65,535").
-use Rattle.std.specs.Prelude.{ℕ, zero, suc, ◌+◌, ◌*◌, ◌/◌, ◌%◌, min, List, [], ◌∷◌, ◌++◌, get_or, length, replicate}
+use Rattle.std.specs.Prelude.{ℕ, ◌+◌, ◌*◌, ◌/◌, ◌%◌, min, List, [], ◌∷◌, ◌++◌, get_or, length, replicate}
 use Rattle.meaning.specs.Limits.{most_lent, row_words}
 
 -- word i of the bytes b, counted from 0; 0 past the end

@@ -4,7 +4,6 @@ use mathlib.Core.Bool.{Bool, true, false, ◌&&◌}
 use Prim.Native.Nat.{ℕ, zero, suc, ◌<◌, ◌≤◌}
 use borrow.Author.Tests.{lt-ltb, le-ltb}
 use native.Mathlib.Omega.{arith}
-use lib.Dec.{ltb}
 use Rattle.meaning.specs.Sheet.{Sheet}
 use Rattle.meaning.specs.Shape.{forest_uses, absent, is_label, is_link, is_size, word_ok}
 use Rattle.meaning.specs.Laws.Bools.{and_false}

@@ -1,5 +1,5 @@
 -- Scopes as words, and what a row hands down: a word says how many places there are and which of them hold trees, and each row's parts get their scope from it.
-use Rattle.std.specs.Prelude.{◌≡◌, List, [], ◌∷◌, ◌++◌, Bool, true, false, ◌&&◌, cond, ℕ, zero, suc, ◌+◌, ◌/◌, ◌%◌, ◌^◌, ◌≤◌, ◌<◌, eqb, get_or, length}
+use Rattle.std.specs.Prelude.{◌≡◌, List, [], ◌∷◌, ◌++◌, Bool, true, false, ◌&&◌, cond, ℕ, zero, suc, ◌/◌, ◌%◌, ◌^◌, ◌≤◌, ◌<◌, eqb, get_or, length}
 use Rattle.meaning.specs.Sheet.{Cells, Procedure, Script, sheet_of}
 use Rattle.meaning.specs.Kinds.{present}
 use Rattle.meaning.specs.Shape.{

@@ -1,5 +1,5 @@
 -- No two places of one head: what lets `ties` make no set. It is read off one pass over the rows, with a flag for each head that was met.
-use Rattle.std.specs.Prelude.{ℕ, ◌+◌, ◌≤◌, ◌<◌, ◌≡◌, refl, Bool, true, false, List, length, get_or, set, replicate}
+use Rattle.std.specs.Prelude.{ℕ, ◌+◌, ◌≤◌, ◌<◌, ◌≡◌, Bool, true, false, List, length, get_or, set, replicate}
 use Rattle.std.proofs.Common.{sym, ◌∙◌, ap, true≢false, length-set, get_or-set_same, get_or-set_other}
 use Rattle.std.proofs.lemmas.Bool.{false≢true}
 use Rattle.std.proofs.Math.Decide.{ℕ_discrete}

@@ -1,7 +1,7 @@
 -- Row by row from above: each row hands its set down to its sides. A row has one user, so a side's set has no member before and is not changed after; what is handed down makes the sets wired for
 -- the model at each root.
 use Prim.Native.Nat.{ℕ, zero, suc, ◌-◌, ◌≤◌, ◌<◌}
-use Rattle.std.specs.Prelude.{◌≡◌, Bool, true, ◌&&◌, ◌||◌, List, ◌⊎◌, eqb, ltb}
+use Rattle.std.specs.Prelude.{◌≡◌, true, ◌&&◌, ◌||◌, List, ◌⊎◌, eqb, ltb}
 use Rattle.std.proofs.Math.Path.{refl, sym}
 use Rattle.std.proofs.Common.{◌∙◌, inl, inr, arith, lt-ltb, ltb-true, ltb-false, ne_eqb}
 use Rattle.std.proofs.Math.Bool.{false}

@@ -1,6 +1,6 @@
 -- A shaped sheet's types are such a table, and a layout tells where it begins.
-use Rattle.std.specs.Prelude.{ℕ, ◌≤◌, ◌<◌, ◌≡◌, true, List}
-use Rattle.std.proofs.Common.{inl, inr, arith}
+use Rattle.std.specs.Prelude.{ℕ, ◌≤◌, ◌≡◌, true, List}
+use Rattle.std.proofs.Common.{inl, inr}
 use Rattle.meaning.specs.Sheet.{row3, script_of}
 use Rattle.meaning.specs.Kinds.{TypeRow}
 use Rattle.meaning.specs.Shape.{shapely}

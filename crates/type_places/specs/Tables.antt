@@ -1,5 +1,5 @@
 -- The tables of a table of type rows: which rows may be empty, what may stand first at each row and what may stand next behind each row.
-use Rattle.std.specs.Prelude.{ℕ, ◌+◌, ◌*◌, ◌/◌, ◌%◌, ◌≤◌, ◌<◌, ◌≡◌, Bool, true, false, ◌&&◌, ◌||◌, List, ltb, eqb, length, replicate}
+use Rattle.std.specs.Prelude.{ℕ, ◌+◌, ◌*◌, ◌/◌, ◌%◌, ◌≤◌, ◌<◌, ◌≡◌, true, false, ◌&&◌, ◌||◌, List, ltb, eqb, length, replicate}
 use Rattle.std.proofs.lemmas.List.{length-replicate}
 use Rattle.meaning.specs.Tests.{in_table}
 use Rattle.meaning.specs.Sheet.{Cells, script_of}

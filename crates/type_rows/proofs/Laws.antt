@@ -1,16 +1,16 @@
 -- What a type row that is read says, what one that is written is, and what a row acts as, by its kind.
-use Prim.Native.Nat.{ℕ, zero, suc, ◌+◌, ◌*◌, ◌-◌, ◌≤◌, ◌<◌}
+use Prim.Native.Nat.{ℕ, zero, suc, ◌+◌, ◌-◌, ◌≤◌, ◌<◌}
 use native.Mathlib.Omega.{arith}
 use mathlib.Core.Path.{◌≡◌, refl, sym, ap, ◌∙◌, subst}
 use mathlib.Core.Bool.{true}
 use mathlib.Core.List.{List}
-use Rattle.meaning.specs.Sheet.{Cells, Script, script_of}
-use Rattle.meaning.specs.Kinds.{TypeRow, type_form, type_at}
+use Rattle.meaning.specs.Sheet.{Cells, script_of}
+use Rattle.meaning.specs.Kinds.{type_form, type_at}
 use Rattle.meaning.specs.Types.{Ty, Named, ty_form, ty_at, declared, names_in, atom_of}
 use Rattle.meaning.specs.Types as types
 use Rattle.meaning.specs.Check.{written}
 use Rattle.meaning.specs.Shape.{shapely}
-use Rattle.meaning.specs.Walk.{ret, tick, gives, Settles, done, paid}
+use Rattle.meaning.specs.Walk.{ret, gives, Settles, done}
 use Rattle.meaning.specs.Laws.Apart.{Low, ty_row, ty_at_same}
 use Rattle.meaning.specs.Laws.Walk.{leads_tick}
 use Rattle.meaning.specs.Theorems.ReadBack.{lent_row}
@@ -20,9 +20,8 @@ use Rattle.sheet.specs.declared.Row.{Row}
 use Rattle.forest_rows.specs.Rows.{Pushed}
 use Rattle.walk.specs.declared.Purse.{Purse}
 use Rattle.type_rows.specs.Grown.{type_in, form_in, ty_in, in_sheet, in_work, Grows, grown_row, ty_kept, grows_more, ty_more}
-use Rattle.type_rows.specs.Finds.{top, Judges, WriteAsks, Typed, Finds, finds_of}
-use Rattle.type_rows.specs.declared.Found.{Found}
-use Rattle.type_rows.specs.declared.Found.TheVariants.{Done, Not}
+use Rattle.type_rows.specs.Finds.{top, Judges, WriteAsks, Finds, finds_of}
+use Rattle.type_rows.specs.declared.Found.TheVariants.{Done}
 
 module _ (s work : List ℕ) (n r : ℕ) {types : ℕ} (types_is : types ≡ (script_of s).types) where
   pub read_sheet : {c : Cells} → r ≤ types → c ≡ (script_of s).type_row r → c ≡ type_in s work n r

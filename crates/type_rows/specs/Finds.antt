@@ -1,6 +1,6 @@
 -- What a check's evaluator asks, what its answer has to be by the walk that the definition gives, and a law for each way in which an evaluator makes its answer from another's.
-use Rattle.std.specs.Prelude.{ℕ, zero, suc, ◌+◌, ◌*◌, ◌≤◌, ◌<◌, ◌≡◌, refl, true, List, [], ◌∷◌, ◌++◌, length, get_or}
-use Rattle.std.proofs.Common.{arith, sym, ap, ◌∙◌, subst}
+use Rattle.std.specs.Prelude.{ℕ, zero, suc, ◌+◌, ◌*◌, ◌≤◌, ◌<◌, ◌≡◌, refl, true, List, [], ◌∷◌, ◌++◌, length}
+use Rattle.std.proofs.Common.{arith, sym, subst}
 use Rattle.meaning.specs.Sheet.{script_of}
 use Rattle.meaning.specs.Types.{Ty, Named, names_in, atom_of}
 use Rattle.meaning.specs.Types as types
@@ -14,9 +14,8 @@ use Rattle.meaning.specs.Walk as meaning
 use Rattle.meaning.specs.Laws.Rows.{SameRows}
 use Rattle.meaning.specs.Laws.Walk.{Leads, leads_tick, leads_then, stops_then, fuel_then}
 use Rattle.meaning.specs.Theorems.ReadBack.{lent_row}
-use Rattle.walk.specs.Scope.{live, values, Scoped, Fresh, More, scoped_more, scoped_with, values_same, values_last, values_at, no_place, value_of}
+use Rattle.walk.specs.Scope.{live, values, Scoped, Fresh, More, scoped_more, values_same, values_last}
 use Rattle.walk.specs.Meets.{same_trans}
-use Rattle.walk.specs.declared.Place as walk
 use Rattle.walk.specs.declared.Scope.{Scope}
 use Rattle.walk.specs.declared.Purse.{Purse}
 use Rattle.type_rows.specs.Grown.{Grows, ty_in, ty_kept}

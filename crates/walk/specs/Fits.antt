@@ -1,5 +1,5 @@
 -- Shape's test of a query's scope, for the walks of run and check alike: a place of kind 2 holds a tree; the test taken apart row by row, in as many steps as there are levels of depth left.
-use Rattle.std.specs.Prelude.{ℕ, suc, ◌+◌, ◌-◌, ◌≤◌, ◌<◌, ◌≡◌, refl, Bool, true, ◌&&◌, cond, List, [], ◌∷◌, ◌++◌, eqb, length}
+use Rattle.std.specs.Prelude.{ℕ, suc, ◌-◌, ◌≤◌, ◌<◌, ◌≡◌, refl, Bool, true, ◌&&◌, cond, List, [], ◌∷◌, ◌++◌, eqb, length}
 use Rattle.std.proofs.Common.{arith, sym, ◌∙◌, ltb-true, length-take-le}
 use Rattle.std.proofs.Math.Path.{ap}
 use Rattle.meaning.specs.Sheet.{Cells, script_of}

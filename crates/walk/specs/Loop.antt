@@ -1,12 +1,11 @@
 -- The loop of for and iter as the code does it: each turn's result becomes a link in front of the links before, and what they hold is gathered from the back. It is meaning's `each` (`loop-is`).
-use Rattle.std.specs.Prelude.{ℕ, zero, suc, ◌+◌, ◌*◌, ◌≤◌, ◌<◌, ◌≡◌, refl, List, length}
-use Rattle.std.proofs.Common.{arith, sym, ap, ◌∙◌, subst}
-use Rattle.meaning.specs.Sheet.{Cells}
-use Rattle.meaning.specs.Forest.{Text, Tree, Forest, nil, cons, only, ◌⊕◌, count, forest_at}
+use Rattle.std.specs.Prelude.{ℕ, ◌+◌, ◌≤◌, ◌≡◌, refl, List}
+use Rattle.std.proofs.Common.{sym, ap, ◌∙◌, subst}
+use Rattle.meaning.specs.Forest.{Tree, Forest, nil, cons, only, ◌⊕◌, count, forest_at}
 use Rattle.meaning.specs.Run.{each}
-use Rattle.meaning.specs.Walk.{Walk, ret, halt, tick, ask, ◌>>=◌, pay, Verdict, gives, Settles, Quiet, Unasked}
-use Rattle.meaning.specs.Laws.Forest.{⊕-nil, nil-⊕, ⊕-assoc, count-⊕}
-use Rattle.meaning.specs.Laws.Rows.{LowRows, SameRows, forest_at_zero}
+use Rattle.meaning.specs.Walk.{ret, halt, tick, ask, ◌>>=◌, pay, gives, Settles, Quiet, Unasked}
+use Rattle.meaning.specs.Laws.Forest.{⊕-nil, nil-⊕, ⊕-assoc}
+use Rattle.meaning.specs.Laws.Rows.{LowRows, SameRows}
 use Rattle.meaning.specs.Laws.Walk.{then_ret, then_assoc, pay_then}
 use Rattle.meaning.specs.Theorems.ReadBack.{lent_row}
 use Rattle.walk.specs.Meets.{Stopped}

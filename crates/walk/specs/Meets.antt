@@ -1,12 +1,12 @@
 -- What an answer has to be, by the walk that the definition gives; and a law for each way in which an evaluator makes its answer from another's.
 use Rattle.std.specs.Prelude.{ℕ, zero, suc, ◌+◌, ◌*◌, ◌≤◌, ◌<◌, ◌≡◌, refl, List, length}
-use Rattle.std.proofs.Common.{arith, add-one, sym, ap, ◌∙◌, subst}
+use Rattle.std.proofs.Common.{arith, sym, ◌∙◌, subst}
 use Rattle.meaning.specs.Sheet.{Cells}
 use Rattle.meaning.specs.Forest.{Forest, nil, forest_at}
 use Rattle.meaning.specs.Walk.{Walk, ret, halt, tick, ◌>>=◌, pay, Verdict, gives, fuel, stops, Settles, done, halted, short, paid, Quiet, Unasked}
 use Rattle.meaning.specs.Walk as meaning
 use Rattle.meaning.specs.Laws.Rows.{LowRow, LowRows, SameRows, forest_at_same, forest_at_zero}
-use Rattle.meaning.specs.Laws.Walk.{Leads, leads_then, leads_tick, pay_paid, pay_short, gives_then, stops_then, fuel_then}
+use Rattle.meaning.specs.Laws.Walk.{Leads, leads_then, leads_tick, pay_short, stops_then, fuel_then}
 use Rattle.meaning.specs.Theorems.ReadBack.{lent_row}
 use Rattle.walk.specs.Scope.{Scoped, scoped_more}
 use Rattle.walk.specs.declared.Purse.{Purse}

@@ -5,7 +5,6 @@ use Rattle.std.specs.Prelude.{◌≡◌, length, take, get_or, set}
 use Rattle.std.proofs.Math.Path.{refl, sym, ap}
 use mathlib.Core.List.{List, [], ◌∷◌, ◌++◌}
 use Rattle.std.proofs.Math.ListN.{get_or-eq_default}
-use Rattle.meaning.specs.Sheet.{Cells}
 use Rattle.meaning.specs.Forest.{Forest, nil, forest_at}
 use Rattle.meaning.specs.Laws.Rows.{LowRows, SameRows, forest_at_same, forest_at_zero}
 use Rattle.meaning.specs.Theorems.ReadBack.{lent_row}

@@ -1,6 +1,6 @@
 -- The steps of the walks as the code takes them, from tables of zeros: what holds where a pair of contents is taken (`Going`), and that each way out is the answer.
 use Rattle.std.specs.Prelude.{ℕ, ◌≤◌, ◌<◌, ◌≡◌, refl, Bool, true, false, List, ◌⊎◌, replicate}
-use Rattle.std.proofs.Common.{inl, inr, arith}
+use Rattle.std.proofs.Common.{inl, inr}
 use Rattle.meaning.specs.Tests.{in_table}
 use Rattle.meaning.specs.Sheet.{row3, script_of}
 use Rattle.meaning.specs.Reply.{done, Loads}

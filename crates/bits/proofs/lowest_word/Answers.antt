@@ -12,7 +12,8 @@ pub loop-w-init : goal.loop-w-init
 loop-w-init c = (search rules, search rules, λ x l g. absurd (omega arith))
 
 pub returns-then-x-ne0 : goal.returns-then-x-ne0
-returns-then-x-ne0 c =     let a = c.args in
+returns-then-x-ne0 c =
+    let a = c.args in
     let w = c.loop-w.w in
     let x = c.both-x.result in
     let word : ℕ = common a.t.now a.k a.u.now a.j w in
@@ -22,7 +23,8 @@ returns-then-x-ne0 c =     let a = c.args in
     (found_here a.t.now a.k a.u.now a.j (64 * w) w 0 x c.loop-w-test.true (omega arith) (omega arith) fits whole (omega arith) c.both-x.type_inv))
 
 pub loop-w-preserved : goal.loop-w-preserved
-loop-w-preserved c =     let a = c.args in
+loop-w-preserved c =
+    let a = c.args in
     let w = c.loop-w.w in
     let word : ℕ = common a.t.now a.k a.u.now a.j w in (
       search rules,

@@ -1,6 +1,6 @@
 use Rattle.std.proofs.Common.{rules}
 use lib.ListN.{get_or}
-use Prim.Native.Nat.{◌-◌, ◌+◌, ◌*◌}
+use Prim.Native.Nat.{◌+◌, ◌*◌}
 use Rattle.bits.proofs.Stores.{united_none, united_all, united_more, in_word}
 use Rattle.bits.proofs.unite.Goals as goal
 

@@ -1,5 +1,4 @@
 use Rattle.std.proofs.Common.{rules}
-use Prim.Native.Nat.{◌-◌}
 use Rattle.bits.proofs.Stores.{united_none, united_all, united_more_in}
 use Rattle.bits.proofs.unite_in.Goals as goal
 

@@ -31,7 +31,8 @@ pub returns-then-not-all_zero : goal.returns-then-not-all_zero
 returns-then-not-all_zero c = record { by = padded (unpacked c.args.b.now c.args.out.now c.unpack.new.out c.unpack.ensures c.unpack.auto.out (omega (arith, c.unpack-arg-1.given)) c.need_in-need.ensures.value) c.all_zero.ensures (c.if-not-all_zero.true) }
 
 pub returns : goal.returns
-returns c =     record {
+returns c =
+    record {
       by = is_framed (unpacked c.args.b.now c.args.out.now c.unpack.new.out c.unpack.ensures c.unpack.auto.out (omega (arith, c.unpack-arg-1.given)) c.need_in-need.ensures.value) c.if-n-ne0.false c.if-m-eq0.false c.if-m-gt88.false
           (sym c.blocks_ok.ensures ∙ c.if-not-blocks_ok.false) c.if-m-need.false c.all_zero.ensures (c.if-not-all_zero.false);
     }

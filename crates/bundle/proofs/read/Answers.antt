@@ -2,10 +2,7 @@
 -- in the arm of a bundle that was opened
 use mathlib.Core.Path.{sym}
 use Rattle.std.proofs.Common.{ℕ, List, ◌++◌, drop, ap}
-use native.Mathlib.Omega.{arith}
 use lib.Seq.{length-take-le}
-use Rattle.bundle.specs.declared.Opened.TheVariants.{Sheet}
-use Rattle.bundle.specs.Calls.{Opens}
 use Rattle.bundle.proofs.Replies.{was_refused, reads_block, reads_shape, reads_room, reads_done}
 use Rattle.bundle.proofs.read.Goals as goal
 

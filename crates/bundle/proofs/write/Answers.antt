@@ -1,10 +1,7 @@
 -- `bundle::write` meets its contract: refused 2, then 13, else the blocks.
 -- past the first refusal
-use mathlib.Core.Path.{◌≡◌, sym, ◌∙◌}
-use mathlib.Core.Bool.{true}
+use mathlib.Core.Path.{sym, ◌∙◌}
 use native.Mathlib.Omega.{arith}
-use borrow.Author.Tests.{not-false}
-use Rattle.meaning.specs.Shape.{shapely}
 use Rattle.meaning.specs.Laws.Shaped.{long}
 use Rattle.bundle.proofs.Replies.{writes_shape, writes_room, writes_done}
 use Rattle.bundle.proofs.write.Goals as goal

@@ -1,5 +1,4 @@
 use mathlib.Core.Path.{refl, sym, ◌∙◌}
-use Prim.Native.Nat.{◌-◌}
 use native.Mathlib.Omega.{arith}
 use Rattle.bundle_blocks.proofs.Reading.{zero_more, zero_not, zero_end}
 use Rattle.bundle_blocks.proofs.all_zero.Goals as goal

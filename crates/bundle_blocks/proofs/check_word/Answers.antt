@@ -1,5 +1,5 @@
 use mathlib.Core.Path.{◌≡◌, sym, ap, ◌∙◌}
-use Prim.Native.Nat.{ℕ, ◌*◌, ◌-◌, ◌%◌}
+use Prim.Native.Nat.{ℕ, ◌*◌, ◌%◌}
 use native.Mathlib.Omega.{arith}
 use lib.ListN.{drop}
 use Rattle.meaning.specs.Bundle.{word_sum}
@@ -28,12 +28,13 @@ pub loop-i-smaller : goal.loop-i-smaller
 loop-i-smaller c = omega arith
 
 pub loop-i-preserved : goal.loop-i-preserved
-loop-i-preserved c =     (
-      omega arith,
-      omega (arith, sum_more (drop (512 * c.args.k) c.args.b.now) c.loop-i.i, word_drop c.args.b.now c.args.k c.loop-i.i, c.word_at-sum.ensures.is, c.loop-i.invariant.1),
-      omega (arith, c.word_at-sum.ensures.small),
-    )
+loop-i-preserved c = (
+  omega arith,
+  omega (arith, sum_more (drop (512 * c.args.k) c.args.b.now) c.loop-i.i, word_drop c.args.b.now c.args.k c.loop-i.i, c.word_at-sum.ensures.is, c.loop-i.invariant.1),
+  omega (arith, c.word_at-sum.ensures.small),
+)
 
 pub returns : goal.returns
-returns c =     let e : c.loop-i.i ≡ 255 = omega arith in
+returns c =
+    let e : c.loop-i.i ≡ 255 = omega arith in
     ap (λ (x : ℕ). x % 65535) (c.loop-i.invariant.1 ∙ ap (word_sum (drop (512 * c.args.k) c.args.b.now)) e)

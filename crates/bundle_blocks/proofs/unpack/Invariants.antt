@@ -1,6 +1,6 @@
 -- `bundle_blocks::unpack` meets its contract: after k turns the payload of k blocks stands in front.
 use mathlib.Core.Path.{◌≡◌}
-use Prim.Native.Nat.{◌+◌, ◌*◌, ◌-◌, ◌≤◌}
+use Prim.Native.Nat.{◌*◌, ◌-◌, ◌≤◌}
 use mathlib.Core.List.{◌++◌}
 use lib.ListN.{length, drop}
 use Rattle.meaning.specs.Bundle.{payload}

@@ -1,5 +1,5 @@
 use mathlib.Core.Path.{◌≡◌, refl, sym, ap, ap₂, ◌∙◌}
-use Prim.Native.Nat.{ℕ, ◌+◌, ◌*◌, ◌-◌}
+use Prim.Native.Nat.{ℕ, ◌+◌, ◌*◌}
 use native.Mathlib.Omega.{arith}
 use native.Mathlib.Numerals.{add-one}
 use mathlib.Core.List.{List}
@@ -38,7 +38,8 @@ pub loop-j-smaller : goal.loop-j-smaller
 loop-j-smaller c = omega arith
 
 pub loop-j-preserved : goal.loop-j-preserved
-loop-j-preserved c =     let from = drop (512 * c.args.k + 2) c.args.b.now in (
+loop-j-preserved c =
+    let from = drop (512 * c.args.k + 2) c.args.b.now in (
       omega arith,
       ap₂ (λ (x : List ℕ) (v : ℕ). set x (508 * c.args.k + c.loop-j.j) v) c.loop-j.invariant.1 (sym (get_or-drop (512 * c.args.k + 2) c.args.b.now c.loop-j.j 0))
           ∙ paste-suc c.args.out.now (508 * c.args.k) from c.loop-j.j 0 (omega arith) (omega (arith, length-drop (512 * c.args.k + 2) c.args.b.now))
@@ -50,5 +51,6 @@ pub shape_of-out : goal.shape_of-out
 shape_of-out c = c.loop-j.invariant.2
 
 pub returns : goal.returns
-returns c =     let e : c.loop-j.j ≡ 508 = omega arith in
+returns c =
+    let e : c.loop-j.j ≡ 508 = omega arith in
     c.loop-j.invariant.1 ∙ ap (paste c.args.out.now (508 * c.args.k) (drop (512 * c.args.k + 2) c.args.b.now)) e

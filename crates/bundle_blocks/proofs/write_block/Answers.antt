@@ -6,6 +6,6 @@ use Rattle.bundle_blocks.proofs.Writing.{block_stands}
 use Rattle.bundle_blocks.proofs.write_block.Goals as goal
 
 pub returns : goal.returns
-returns c =     block_stands c.args.k c.check_word-check.result (drop (508 * c.args.k) (take c.args.need c.args.s.now)) c.args.out.now _ _ _ c.requires.2
+returns c = block_stands c.args.k c.check_word-check.result (drop (508 * c.args.k) (take c.args.need c.args.s.now)) c.args.out.now _ _ _ c.requires.2
     c.put_word.ensures c.write_payload.ensures (c.write_payload.auto.out ∙ c.put_word.auto.b)
     c.check_word-check.ensures c.put_word-2.ensures

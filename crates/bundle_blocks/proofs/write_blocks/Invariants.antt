@@ -1,6 +1,6 @@
 -- `bundle_blocks::write_blocks` meets its contract: after k turns k blocks stand in front.
 use mathlib.Core.Path.{◌≡◌}
-use Prim.Native.Nat.{◌+◌, ◌*◌, ◌-◌, ◌≤◌}
+use Prim.Native.Nat.{◌*◌, ◌-◌, ◌≤◌}
 use mathlib.Core.List.{◌++◌}
 use lib.ListN.{length, take, drop}
 use Rattle.meaning.specs.Bundle.{blocks}

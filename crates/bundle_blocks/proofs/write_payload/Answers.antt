@@ -1,5 +1,5 @@
 use mathlib.Core.Path.{◌≡◌, refl, sym, ap, ◌∙◌}
-use Prim.Native.Nat.{◌+◌, ◌*◌, ◌-◌}
+use Prim.Native.Nat.{◌+◌, ◌*◌}
 use native.Mathlib.Omega.{arith}
 use lib.ListN.{take, drop, length-set}
 use lib.Seq.{get_or-drop}
@@ -38,7 +38,8 @@ pub loop-j-smaller : goal.loop-j-smaller
 loop-j-smaller c = omega arith
 
 pub loop-j-preserved : goal.loop-j-preserved
-loop-j-preserved c =     let sheet = take c.args.need c.args.s.now in (
+loop-j-preserved c =
+    let sheet = take c.args.need c.args.s.now in (
       omega arith,
       stored_more c.args.out.now (512 * c.args.k + 2) (drop (508 * c.args.k) sheet) c.loop-j.j c.loop-j.out c.or_zero.result (omega arith) c.loop-j.invariant.1 c.loop-j.invariant.2 (c.or_zero.ensures ∙ sym (get_or-drop (508 * c.args.k) sheet c.loop-j.j 0)),
       length-set c.loop-j.out (512 * c.args.k + 2 + c.loop-j.j) c.or_zero.result ∙ c.loop-j.invariant.2,
@@ -48,5 +49,6 @@ pub shape_of-out : goal.shape_of-out
 shape_of-out c = c.loop-j.invariant.2
 
 pub returns : goal.returns
-returns c =     let e : c.loop-j.j ≡ 508 = omega arith in
+returns c =
+    let e : c.loop-j.j ≡ 508 = omega arith in
     c.loop-j.invariant.1 ∙ ap (stored c.args.out.now (512 * c.args.k + 2) (drop (508 * c.args.k) (take c.args.need c.args.s.now))) e

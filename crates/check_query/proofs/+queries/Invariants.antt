@@ -1,4 +1,4 @@
-use Prim.Native.Nat.{◌+◌, ◌*◌, ◌-◌}
+use Prim.Native.Nat.{◌+◌, ◌*◌}
 use Rattle.check_query.proofs.+queries.Given as goal
 
 abbrev pub decreases-choose : goal.decreases-choose

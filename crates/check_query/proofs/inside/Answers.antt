@@ -1,4 +1,3 @@
--- Made by tools/cycle from tools/answers/check_query/inside: change that, and run tools/proofs check_query.
 -- `check_query::inside` meets its contract, by what the row acts as.
 use native.Mathlib.Omega.{arith}
 use mathlib.Core.Path.{refl}

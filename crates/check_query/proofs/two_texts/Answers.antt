@@ -1,4 +1,3 @@
--- Made by tools/cycle from tools/answers/check_query/two_texts: change that, and run tools/proofs check_query.
 -- `check_query::two_texts` meets its contract: two questions, in order.
 use native.Mathlib.Omega.{arith}
 use mathlib.Core.Path.{refl}

@@ -1,4 +1,4 @@
-use Prim.Native.Nat.{◌+◌, ◌*◌, ◌-◌}
+use Prim.Native.Nat.{◌+◌, ◌*◌}
 use Rattle.check_statement.proofs.+statements.Given as goal
 
 abbrev pub decreases-children : goal.decreases-children

@@ -1,4 +1,3 @@
--- Made by tools/cycle from tools/answers/check_statement/arguments: change that, and run tools/proofs check_statement.
 -- `check_statement::arguments` meets its contract: the queries in order, then the questions in order.
 use native.Mathlib.Omega.{arith}
 use mathlib.Core.Path.{refl, ◌∙◌}

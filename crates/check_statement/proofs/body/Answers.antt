@@ -1,4 +1,3 @@
--- Made by tools/cycle from tools/answers/check_statement/body: change that, and run tools/proofs check_statement.
 -- `check_statement::body` meets its contract: the statement, then its output against the declared one.
 use Rattle.type_rows.specs.Finds.{finds_done, finds_not, finds_halt, room_after}
 use Rattle.check_statement.proofs.Wholes.{body_halts, body_finds}

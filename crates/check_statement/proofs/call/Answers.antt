@@ -1,4 +1,3 @@
--- Made by tools/cycle from tools/answers/check_statement/call: change that, and run tools/proofs check_statement.
 -- `check_statement::call` meets its contract: the focus against the declared input, then the arguments.
 use native.Mathlib.Omega.{arith}
 use mathlib.Core.Path.{refl}

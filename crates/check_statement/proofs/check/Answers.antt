@@ -1,5 +1,4 @@
 use native.Mathlib.Omega.{arith}
-use Prim.Native.Nat.{◌-◌}
 use mathlib.Core.Path.{◌∙◌}
 use Rattle.sheet.specs.Whole.{whole_loads}
 use Rattle.type_rows.specs.Finds.{finds_done, finds_not, finds_halt}

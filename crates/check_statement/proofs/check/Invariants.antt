@@ -1,4 +1,3 @@
--- Made by tools/cycle from tools/answers/check_statement/check: change that, and run tools/proofs check_statement.
 -- `check_statement::check` meets its contract. The loop's invariant: the first c procedures are typed, and the walk leads to what is left of it.
 use Prim.Native.Nat.{◌-◌}
 use Rattle.check_statement.specs.Bodies.{Checking}

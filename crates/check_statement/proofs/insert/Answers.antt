@@ -1,4 +1,3 @@
--- Made by tools/cycle from tools/answers/check_statement/insert: change that, and run tools/proofs check_statement.
 -- `check_statement::insert` meets its contract: a query where the focus is (), else Wide or Mismatch.
 use native.Mathlib.Omega.{arith}
 use mathlib.Core.Path.{refl}

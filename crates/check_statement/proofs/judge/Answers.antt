@@ -1,4 +1,3 @@
--- Made by tools/cycle from tools/answers/check_statement/judge: change that, and run tools/proofs check_statement.
 -- `check_statement::judge` meets its contract, by what the focus acts as and the test's first word.
 use Rattle.type_rows.specs.Finds.{acts_other, acts_text, acts_bool, acts_label}
 use Rattle.check_statement.proofs.Laws.{fate_none, fate_text, fate_text_label, fate_bool_text, fate_bool_label, fate_bool, fate_node_text, fate_node, fate_label, fate_other}

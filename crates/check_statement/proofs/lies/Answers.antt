@@ -1,4 +1,3 @@
--- Made by tools/cycle from tools/answers/check_statement/lies: change that, and run tools/proofs check_statement.
 -- `check_statement::lies` meets its contract: a question that gives a type, else Wide or Not included.
 use native.Mathlib.Omega.{arith}
 use Rattle.check_statement.proofs.Calling.{lies_wide, lies_fails, lies_holds}

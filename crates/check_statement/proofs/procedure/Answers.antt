@@ -1,4 +1,3 @@
--- Made by tools/cycle from tools/answers/check_statement/procedure: change that, and run tools/proofs check_statement.
 -- `check_statement::procedure` meets its contract: the body in the scope of the parameters that are there.
 use native.Mathlib.Omega.{arith}
 use Rattle.sheet.specs.Whole.{whole_loads}

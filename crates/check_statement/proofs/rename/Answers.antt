@@ -1,4 +1,3 @@
--- Made by tools/cycle from tools/answers/check_statement/rename: change that, and run tools/proofs check_statement.
 -- `check_statement::rename` meets its contract: a labelled atom under another label, else Mismatch.
 use native.Mathlib.Omega.{arith}
 use mathlib.Core.Path.{refl}

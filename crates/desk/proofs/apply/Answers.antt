@@ -1,4 +1,3 @@
--- Made by tools/cycle from tools/answers/desk/apply: change that, and run tools/proofs desk.
 -- `desk::apply` meets its contract: what was judged, and the working rows zeroed.
 use Rattle.desk.specs.Applying.{apply_replied}
 use Rattle.desk.proofs.apply.Goals as goal

@@ -1,4 +1,3 @@
--- Made by tools/cycle from tools/answers/desk/check_judged: change that, and run tools/proofs desk.
 -- `desk::check_judged` meets its contract: the order of refusals 2, 3 and 4, then the check by the tables made on the way.
 use mathlib.Core.Path.{refl, sym, ◌∙◌, subst}
 use Rattle.meaning.specs.Reply.{Loads, misshapen}

@@ -1,4 +1,3 @@
--- Made by tools/cycle from tools/answers/desk/in_turn: change that, and run tools/proofs desk.
 -- `desk::in_turn` meets its contract: the check's refusal, Unfit, or what the run says.
 use native.Mathlib.Omega.{arith}
 use Rattle.desk.specs.Ends.{few_asked, short}

@@ -1,4 +1,3 @@
--- Made by tools/cycle from tools/answers/desk/judged: change that, and run tools/proofs desk.
 -- `desk::judged` meets its contract: the order of refusals 2, 3, 4 and 12.
 use mathlib.Core.Path.{sym, ◌∙◌, subst}
 use native.Mathlib.Omega.{arith}

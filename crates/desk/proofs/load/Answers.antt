@@ -15,8 +15,8 @@ returns c =
     let part : List ℕ = take (2 * c.args.l.rows_at + 8 * c.args.l.rows - 2 * c.args.l.rows_at) (drop (2 * c.args.l.rows_at) c.args.s.now) in
     let fits : 2 * c.args.l.rows_at + 8 * c.args.l.rows ≤ length c.args.s.now = omega (arith, long c.args.s.now c.requires.0, c.requires.1.rows, c.requires.1.rows_at) in
     let size : length part ≡ 2 * c.args.l.rows_at + 8 * c.args.l.rows - 2 * c.args.l.rows_at =
-        length-take-le _ _ (omega (arith, fits, length-drop (2 * c.args.l.rows_at) c.args.s.now)) in
+    length-take-le _ _ (omega (arith, fits, length-drop (2 * c.args.l.rows_at) c.args.s.now)) in
     load_rows c.args.s.now c.args.work.now _ (2 * c.args.l.rows_at) (2 * c.args.l.rows_at + 8 * c.args.l.rows) fits
     (copied part c.args.work.now _ size
-        (ap (λ (x : List ℕ). x ++ drop (2 * c.args.l.rows_at + 8 * c.args.l.rows - 2 * c.args.l.rows_at) c.args.work.now) c.copy_from_slice.ensures.after))
+    (ap (λ (x : List ℕ). x ++ drop (2 * c.args.l.rows_at + 8 * c.args.l.rows - 2 * c.args.l.rows_at) c.args.work.now) c.copy_from_slice.ensures.after))
     (ap (λ (k : ℕ). 2 * k) c.requires.1.rows_at) (ap (λ (k : ℕ). 2 * c.args.l.rows_at + 8 * k) c.requires.1.rows)

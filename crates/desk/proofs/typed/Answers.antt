@@ -1,4 +1,3 @@
--- Made by tools/cycle from tools/answers/desk/typed: change that, and run tools/proofs desk.
 -- `desk::typed` meets its contract: Scratch, then what the walk's end says.
 use native.Mathlib.Omega.{arith}
 use Rattle.type_rows.specs.Finds.{finds_done, finds_not}

@@ -1,4 +1,3 @@
--- Made by tools/cycle from tools/answers/desk/unwalked: change that, and run tools/proofs desk.
 -- `desk::unwalked` meets its contract: 3, 4, or Scratch.
 use mathlib.Core.Path.{subst}
 use Rattle.meaning.specs.Reply.{Loads, unsound}

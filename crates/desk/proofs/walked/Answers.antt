@@ -1,4 +1,3 @@
--- Made by tools/cycle from tools/answers/desk/walked: change that, and run tools/proofs desk.
 -- `desk::walked` meets its contract: what the walk's end says.
 use native.Mathlib.Omega.{arith}
 use Rattle.desk.specs.Ends.{begun, fuel_is, left_of_lem, ends_not, ends_done, done_left, gave_of}

@@ -1,5 +1,4 @@
 use Rattle.fit.specs.Fitting.{Walking}
-use Prim.Native.Nat.{◌-◌}
 use Rattle.fit.proofs.+trees.Given as goal
 
 abbrev pub decreases-trees : goal.decreases-trees

@@ -1,4 +1,3 @@
--- Made by tools/cycle from tools/answers/fit/content_at: change that, and run tools/proofs fit.
 -- `fit::content_at` meets its contract: the content is a word of the row that the place acts as.
 use mathlib.Core.Path.{ap}
 use Rattle.meaning.specs.Sheet.{Cells}

@@ -1,4 +1,3 @@
--- Made by tools/cycle from tools/answers/fit/fit: change that, and run tools/proofs fit.
 -- `fit::fit` meets its contract: each way out is one of the ways that `Fitted` has, in its order.
 use Rattle.std.proofs.lemmas.Bool.{not_from_true, not_from_false}
 use mathlib.Core.Path.{refl, ap}

@@ -1,4 +1,3 @@
--- Made by tools/cycle from tools/answers/fit/may_end: change that, and run tools/proofs fit.
 -- `fit::may_end` meets its contract: by which way the test went.
 
 use Rattle.fit.proofs.may_end.Goals as goal

@@ -1,4 +1,3 @@
--- Made by tools/cycle from tools/answers/fit/of_part: change that, and run tools/proofs fit.
 -- `fit::of_part` meets its contract: `next` is wired for the told row's model, the only root.
 use mathlib.Core.Path.{refl}
 use native.Mathlib.Omega.{arith}

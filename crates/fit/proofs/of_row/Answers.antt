@@ -1,4 +1,3 @@
--- Made by tools/cycle from tools/answers/fit/of_row: change that, and run tools/proofs fit.
 -- `fit::of_row` meets its contract: a root's next sets are among the sheet's tables.
 use mathlib.Core.Path.{refl}
 use Rattle.type_barren.specs.Flags.{unset}

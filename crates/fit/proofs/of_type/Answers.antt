@@ -1,4 +1,3 @@
--- Made by tools/cycle from tools/answers/fit/of_type: change that, and run tools/proofs fit.
 -- `fit::of_type` meets its contract: the walk over the tables is right (Whole).
 use Rattle.fit.proofs.Whole.{walked, of_type}
 use Rattle.fit.proofs.of_type.Goals as goal

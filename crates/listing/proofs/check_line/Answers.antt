@@ -1,4 +1,3 @@
--- Made by tools/cycle from tools/answers/listing/check_line: change that, and run tools/proofs listing.
 -- `listing::check_line` meets its contract: the question's word, then its fields.
 use native.Mathlib.Omega.{arith}
 use Rattle.meaning.specs.Listing.{codes}

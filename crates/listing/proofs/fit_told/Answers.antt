@@ -1,4 +1,3 @@
--- Made by tools/cycle from tools/answers/listing/fit_told: change that, and run tools/proofs listing.
 -- `listing::fit_told` meets its contract: Unfit, or what the run tells.
 use Rattle.listing.specs.Lists.{fit_refused, fit_done}
 use Rattle.listing.proofs.fit_told.Goals as goal

@@ -1,4 +1,3 @@
--- Made by tools/cycle from tools/answers/listing/listing: change that, and run tools/proofs listing.
 -- `listing::listing` meets its contract: refused by the reader, or told of the sheet that it read.
 use mathlib.Core.Path.{sym, ap}
 use native.Mathlib.Omega.{arith}

@@ -1,4 +1,3 @@
--- Made by tools/cycle from tools/answers/listing/load_line: change that, and run tools/proofs listing.
 -- `listing::load_line` meets its contract: the question's word, then its fields.
 use Rattle.meaning.specs.Listing.{codes}
 use Rattle.listing.specs.Adds.{adds_then}

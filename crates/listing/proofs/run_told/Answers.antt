@@ -1,4 +1,3 @@
--- Made by tools/cycle from tools/answers/listing/run_told: change that, and run tools/proofs listing.
 -- `listing::run_told` meets its contract: the run's refusal, or its root and its rows.
 use native.Mathlib.Omega.{arith}
 use Rattle.listing.specs.Lists.{few_root, run_refused, run_gave}

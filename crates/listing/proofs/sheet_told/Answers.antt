@@ -1,4 +1,3 @@
--- Made by tools/cycle from tools/answers/listing/sheet_told: change that, and run tools/proofs listing.
 -- `listing::sheet_told` meets its contract: a refusal of the load, one of the check, or what fit tells.
 use native.Mathlib.Omega.{arith}
 use Rattle.listing.specs.Lists.{check_loaded, check_refused, check_done}

@@ -2,7 +2,7 @@
 -- twice or to a row below itself.
 -- Then the computed next sets are wired, and words that go through one place can be exchanged behind it. A shaped sheet's types are such a table. Also: at row r, r steps down are enough, so the
 -- type and the model of a row are made of those of its parts.
-use Prim.Native.Nat.{ℕ, zero, suc, ◌-◌, ◌≤◌, ◌<◌}
+use Prim.Native.Nat.{ℕ, zero, suc, ◌≤◌, ◌<◌}
 use Rattle.std.specs.Prelude.{◌≡◌, Bool, false, ◌||◌, List, [], ◌∷◌, ◌++◌, ◌⊎◌, eqb}
 use Rattle.std.proofs.Math.Path.{refl, sym}
 use Rattle.std.proofs.Common.{◌∙◌, ap, append_assoc, arith, eqb-true, eq-eqb}

@@ -9,7 +9,6 @@ use Rattle.meaning.specs.Places.{same_head}
 use Rattle.meaning.specs.Laws.Bools.{and_left, and_right, and_both, either, not_both}
 use Rattle.meaning.specs.Laws.Tests.{some_at, some_of}
 use Rattle.meaning.specs.Laws.Models.{same_head_says}
-use Rattle.meaning.specs.Laws.Wired.{has}
 
 -- a graph of places: in each state a forest may end, and some places may stand; a place has a head there, a state inside it and one behind it
 pub record Side : Type 1 where

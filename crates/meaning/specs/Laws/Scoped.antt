@@ -1,6 +1,6 @@
 -- Shape's scope test in any number of steps: rows refer to lower rows, so a test passed in as many steps as a row's number is passed in any number of them.
 -- The evaluators take as many steps as there are levels of depth left; a call's arguments are as many as its body has parameters.
-use Prim.Native.Nat.{ℕ, zero, suc, ◌+◌, ◌-◌, ◌≤◌}
+use Prim.Native.Nat.{ℕ, zero, suc, ◌≤◌}
 use Rattle.std.specs.Prelude.{◌≡◌, Bool, ◌&&◌, cond}
 use Rattle.std.proofs.Math.Path.{refl, subst}
 use Rattle.std.proofs.Common.{sym, ap, arith}

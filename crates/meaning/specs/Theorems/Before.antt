@@ -7,7 +7,7 @@ use Rattle.meaning.specs.Limits.{most_depth}
 use Rattle.meaning.specs.Words.{rows_lent}
 use Rattle.meaning.specs.Sheet.{Script, sheet_of, script_of}
 use Rattle.meaning.specs.Kinds.{Query, Test, Statement, query_at, statement_at}
-use Rattle.meaning.specs.Types.{Ty, Named, Atom, atom_of, declared, names_in}
+use Rattle.meaning.specs.Types.{Ty, Atom, atom_of, declared, names_in}
 use Rattle.meaning.specs.Walk.{Stop, Place, of_query, of_statement, Judgement, Walk, ret, halt, tick, ask, ◌>>=◌, Verdict, gives, Settles, paid, passed}
 use Rattle.meaning.specs.Walk as walk
 use Rattle.meaning.specs.Run.{Fate, misfit, matched, arguments}

@@ -1,14 +1,14 @@
 -- Two desks, worked: P1's description a[b,c,b],d split in two, and splits that are stuck, in the second half and in the first, each with
 -- the theorem's hypotheses met and its conclusion on the replies.
 -- And a row anywhere: S's inner iter, in three scopes and from three depths.
-use Rattle.std.specs.Prelude.{ℕ, zero, suc, ◌+◌, ◌*◌, ◌-◌, ◌≤◌, ◌<◌, ◌≡◌, refl, Bool, true, false, ◌&&◌, ◌||◌, List, [], ◌∷◌, ◌++◌, eqb, leb, length, take, drop}
+use Rattle.std.specs.Prelude.{ℕ, zero, suc, ◌+◌, ◌*◌, ◌-◌, ◌≤◌, ◌<◌, ◌≡◌, refl, Bool, true, false, ◌||◌, List, [], ◌∷◌, ◌++◌, eqb, leb, length, take, drop}
 use Rattle.std.proofs.Common.{inl, inr, arith, leb-true, eqb-true}
 use Rattle.meaning.specs.Limits.{most_depth}
 use Rattle.meaning.specs.Tests.{every}
 use Rattle.meaning.specs.Words.{word_at, word_bytes, bytes_of, zeroed}
 use Rattle.meaning.specs.Sheet.{script_of, grove_of, rows_at, pool_at}
 use Rattle.meaning.specs.Forest.{Tree, Forest, nil, only, ◌⊕◌}
-use Rattle.meaning.specs.Walk.{gives, stops, of_statement, settle}
+use Rattle.meaning.specs.Walk.{gives, of_statement, settle}
 use Rattle.meaning.specs.Run.{Env, statement}
 use Rattle.meaning.specs.Reply.{stuck, done, refused, Refusal, Answer, Loads, Reply, RunReply}
 use Rattle.meaning.specs.Listing.{lent_work, lent_result}
@@ -16,12 +16,12 @@ use Rattle.meaning.specs.Laws.Bools.{or_cases}
 use Rattle.meaning.specs.Laws.Tests.{every_at}
 use Rattle.meaning.specs.Laws.Agree.{SameTables, same_script}
 use Rattle.meaning.specs.Laws.Walk.{settle_settles}
-use Rattle.meaning.specs.Theorems.Worked.{P1, edited, seven, worked}
+use Rattle.meaning.specs.Theorems.Worked.{edited, seven, worked}
 use Rattle.meaning.specs.Theorems.Worked.Sheets.{Row, row, joined, s1, small}
 use Rattle.meaning.specs.Theorems.Worked.Stated.{tables, shape, ties, runs, a, b, c, d, leaf, trees, Does, Refuses, loads, does}
 use Rattle.meaning.specs.Theorems.Worked.Stated.{refuses}
 use Rattle.meaning.specs.Theorems.Refuted.Calls.{Enough, work_rows, result_rows}
-use Rattle.meaning.specs.Theorems.Split.{Walked, Joins, Here, split_inside, Alike, Halved, Splits, split}
+use Rattle.meaning.specs.Theorems.Split.{Joins, Here, split_inside, Alike, Halved, Splits, split}
 use Rattle.meaning.specs.Theorems.Split.Closed.{query_names_none, statement_names_none, query_closed, statement_closed}
 
 -- ---- the same script on two sheets, by comparing their words

@@ -2,7 +2,7 @@ use mathlib.Core.Path.{◌≡◌}
 use Rattle.run_query.specs.Ask.{pool, body_asked}
 use lib.ListN.{length}
 use Rattle.forest_rows.specs.Each.{Looping}
-use Prim.Native.Nat.{◌+◌, ◌*◌, ◌-◌}
+use Prim.Native.Nat.{◌+◌, ◌*◌}
 use Rattle.run_query.proofs.+queries.Given as goal
 
 abbrev pub decreases-choose : goal.decreases-choose

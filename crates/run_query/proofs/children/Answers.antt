@@ -1,4 +1,3 @@
--- Made by tools/cycle from tools/answers/run_query/children: change that, and run tools/proofs run_query.
 -- `run_query::children` meets its contract: the child of the one tree, if it is labelled.
 use native.Mathlib.Omega.{arith}
 use mathlib.Core.Path.{sym, ap, ◌∙◌}

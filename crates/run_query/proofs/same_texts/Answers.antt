@@ -1,4 +1,3 @@
--- Made by tools/cycle from tools/answers/run_query/same_texts: change that, and run tools/proofs run_query.
 -- `run_query::same_texts` meets its contract: two single texts give a bool, all else is Stuck.
 use mathlib.Core.Path.{refl}
 use Rattle.meaning.specs.Run.{same_texts}

@@ -4,7 +4,6 @@ use Rattle.std.proofs.Common.{ℕ, List, ◌≡◌, ◌<◌}
 use Rattle.meaning.specs.Sheet.{Cells}
 use Rattle.meaning.specs.Theorems.ReadBack.{lent_row}
 use Rattle.forest_rows.specs.Rows.{Readable}
-use Rattle.sheet.specs.Laid.{cells_of}
 use Rattle.run_result.specs.Trees.{TreeAt, next_low, child_low, child_readable}
 use Rattle.run_result.specs.Count.{counts_none, counting_begins, counting_full, counting_more, counting_ends}
 use Rattle.run_result.proofs.+count.Goals as goal
@@ -35,7 +34,8 @@ pub overflow_add-k-else-q-eq0 : goal.overflow_add-k-else-q-eq0
 overflow_add-k-else-q-eq0 t c = omega (arith, c.if-room-k.false, c.requires.small)
 
 pub count-k-requires : goal.count-k-requires
-count-k-requires t c =     let x = tree c.loop-r.invariant.readable (omega arith) c.row-c.ensures.is in
+count-k-requires t c =
+    let x = tree c.loop-r.invariant.readable (omega arith) c.row-c.ensures.is in
     rw c.child-q.ensures (
       omega (arith, c.loop-r.invariant.within, child_low x),
       record { readable = child_readable x; within = omega (arith, c.if-room-k.false); small = c.requires.small },
@@ -45,14 +45,16 @@ pub loop-r-smaller-then-q-eq0 : goal.loop-r-smaller-then-q-eq0
 loop-r-smaller-then-q-eq0 t c = next_low (tree c.loop-r.invariant.readable (omega arith) c.row-c.ensures.is)
 
 pub loop-r-preserved-then-q-eq0 : goal.loop-r-preserved-then-q-eq0
-loop-r-preserved-then-q-eq0 t c =     let none = rw c.child-q.ensures at c.if-q-eq0.true in
+loop-r-preserved-then-q-eq0 t c =
+    let none = rw c.child-q.ensures at c.if-q-eq0.true in
     counting_more c.loop-r.invariant (tree c.loop-r.invariant.readable (omega arith) c.row-c.ensures.is) (counts_none _ _ _ _ none (omega arith))
 
 pub loop-r-smaller : goal.loop-r-smaller
 loop-r-smaller t c = next_low (tree c.loop-r.invariant.readable (omega arith) c.row-c.ensures.is)
 
 pub loop-r-preserved : goal.loop-r-preserved
-loop-r-preserved t c =     let kids = rw c.child-q.ensures at c.count-k.ensures in
+loop-r-preserved t c =
+    let kids = rw c.child-q.ensures at c.count-k.ensures in
     counting_more c.loop-r.invariant (tree c.loop-r.invariant.readable (omega arith) c.row-c.ensures.is) kids
 
 pub returns : goal.returns

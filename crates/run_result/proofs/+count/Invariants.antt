@@ -1,5 +1,4 @@
 use Rattle.run_result.specs.Count.{Counting}
-use Prim.Native.Nat.{◌-◌}
 use Rattle.run_result.proofs.+count.Given as goal
 
 abbrev pub decreases-count : goal.decreases-count

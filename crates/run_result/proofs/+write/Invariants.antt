@@ -1,5 +1,4 @@
 use Rattle.run_result.specs.Written.{Writing}
-use Prim.Native.Nat.{◌-◌}
 use Rattle.run_result.proofs.+write.Given as goal
 
 abbrev pub decreases-write : goal.decreases-write

@@ -3,7 +3,7 @@ use Rattle.run_statement.specs.Edit.{body_went}
 use Rattle.run_query.specs.Ask.{pool}
 use lib.ListN.{length}
 use Rattle.forest_rows.specs.Each.{Looping}
-use Prim.Native.Nat.{◌+◌, ◌*◌, ◌-◌}
+use Prim.Native.Nat.{◌+◌, ◌*◌}
 use Rattle.run_statement.proofs.+statements.Given as goal
 
 abbrev pub decreases-call : goal.decreases-call

@@ -1,4 +1,3 @@
--- Made by tools/cycle from tools/answers/run_statement/insert: change that, and run tools/proofs run_statement.
 -- `run_statement::insert` meets its contract: a query on an empty focus, else Stuck.
 use Rattle.run_statement.specs.Edit.{edits_query, fits_insert}
 use Rattle.run_statement.proofs.Laws.{insert_stuck, insert_met}

@@ -1,4 +1,3 @@
--- Made by tools/cycle from tools/answers/run_statement/judge: change that, and run tools/proofs run_statement.
 -- `run_statement::judge` meets its contract, by what the focus is and the test's first word.
 use Rattle.forest_rows.specs.Asks.{sees_nothing, sees_many, sees_text, sees_bool, sees_node}
 use Rattle.run_statement.proofs.Laws.{fate_nothing, fate_many, fate_text, fate_text_label, fate_bool_text, fate_bool_label, fate_bool, fate_node_text, fate_node, fate_label, fate_other}

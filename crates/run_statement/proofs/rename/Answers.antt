@@ -1,4 +1,3 @@
--- Made by tools/cycle from tools/answers/run_statement/rename: change that, and run tools/proofs run_statement.
 -- `run_statement::rename` meets its contract: a copy of one labelled tree under another label, else Stuck.
 use mathlib.Core.Path.{ap}
 use native.Mathlib.Omega.{arith}

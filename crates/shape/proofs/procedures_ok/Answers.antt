@@ -1,7 +1,6 @@
 use Rattle.std.proofs.lemmas.Bool.{not_from_true, not_from_false}
 use mathlib.Core.Path.{sym, ap, ◌∙◌}
 use native.Mathlib.Omega.{arith}
-use Prim.Native.Nat.{◌-◌}
 use Rattle.meaning.specs.Sheet.{script_of, sheet_of}
 use Rattle.meaning.specs.Shape.{procedure_ok}
 use Rattle.meaning.specs.Laws.Turns.{none_yet, one_more, fails, passes}

@@ -1,7 +1,7 @@
 use Rattle.std.proofs.lemmas.Bool.{not_from_true, not_from_false}
 use mathlib.Core.Path.{sym, ◌∙◌}
 use native.Mathlib.Omega.{arith}
-use Prim.Native.Nat.{◌+◌, ◌-◌}
+use Prim.Native.Nat.{◌+◌}
 use Rattle.meaning.specs.Sheet.{sheet_of}
 use Rattle.meaning.specs.Laws.Turns.{none_yet, one_more, fails, passes}
 use Rattle.shape_kinds.proofs.RowTests.{forest_turn, pool_is, row_test, rows_are}

@@ -8,7 +8,6 @@ use Rattle.meaning.specs.Sheet as meaning
 use Rattle.meaning.specs.Sheet.{script_of}
 use native.Mathlib.Omega.{arith}
 use mathlib.Core.Path.{ap, ◌∙◌}
-use Prim.Native.Nat.{◌-◌}
 use Rattle.shape_scope.proofs.hand_bodies.Goals as goal
 
 pub loop-c-init : goal.loop-c-init
@@ -24,7 +23,8 @@ pub loop-c-smaller : goal.loop-c-smaller
 loop-c-smaller c = omega (arith, c.requires.laid.0.few_procedures, c.loop-c-test.true)
 
 pub loop-c-preserved : goal.loop-c-preserved
-loop-c-preserved c =     let S = (script_of c.args.s.now) in
+loop-c-preserved c =
+    let S = (script_of c.args.s.now) in
     let row = c.procedure_row-row.ensures in (
       omega (arith, c.loop-c.invariant.0),
       omega (arith, c.requires.laid.0.few_procedures, c.loop-c-test.true),

@@ -22,7 +22,8 @@ pub loop-i-smaller : goal.loop-i-smaller
 loop-i-smaller c = omega (arith, c.loop-i-test.true)
 
 pub loop-i-preserved : goal.loop-i-preserved
-loop-i-preserved c =     let t = statement_more (facts c.args.s.now c.requires.laid.1) c.loop-i-test.true c.loop-i.invariant.0 c.loop-i.invariant.3 c.statement_row.ensures.is (c.if-not-statement_in_scope.false) c.statement_in_scope.ensures in
+loop-i-preserved c =
+    let t = statement_more (facts c.args.s.now c.requires.laid.1) c.loop-i-test.true c.loop-i.invariant.0 c.loop-i.invariant.3 c.statement_row.ensures.is (c.if-not-statement_in_scope.false) c.statement_in_scope.ensures in
     (omega (arith, c.loop-i.invariant.0), t.0, t.1, t.2)
 
 pub returns : goal.returns

@@ -1,6 +1,5 @@
 use mathlib.Core.Path.{subst}
 use native.Mathlib.Omega.{arith}
-use Prim.Native.Nat.{◌-◌}
 use Rattle.meaning.specs.Sheet.{script_of}
 use Rattle.meaning.specs.Shape.{hit}
 use Rattle.shape_users.specs.Tally.{Added}

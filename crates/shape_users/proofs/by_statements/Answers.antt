@@ -1,5 +1,4 @@
 use native.Mathlib.Omega.{arith}
-use Prim.Native.Nat.{◌-◌}
 use Rattle.meaning.specs.Sheet.{script_of}
 use Rattle.meaning.specs.Shape.{hits, own, statement_uses}
 use Rattle.shape_users.proofs.Counts.{start, turn, done, by_row}

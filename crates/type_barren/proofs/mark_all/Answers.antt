@@ -1,4 +1,3 @@
-use Prim.Native.Nat.{◌-◌}
 use native.Mathlib.Omega.{arith}
 use Rattle.type_barren.specs.Flags.{flag}
 use Rattle.sheet.specs.Counts.{in_names, names_high}

@@ -1,4 +1,3 @@
-use Prim.Native.Nat.{◌-◌}
 use native.Mathlib.Omega.{arith}
 use Rattle.type_heads.specs.Apart.{seen_none, seen_skip, seen_more, seen_twice, seen_all}
 use Rattle.type_heads.proofs.apart.Goals as goal

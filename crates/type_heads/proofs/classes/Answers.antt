@@ -1,6 +1,4 @@
-use Prim.Native.Nat.{◌-◌}
 use native.Mathlib.Omega.{arith}
-use Rattle.meaning.specs.Laws.Shaped.{few_types}
 use Rattle.type_heads.specs.Classes.{classed_none, classes_all}
 use Rattle.type_heads.proofs.classes.Goals as goal
 

@@ -1,7 +1,6 @@
 -- `type_heads::classify` meets its contract: the row joins its class, or has none.
 use Prim.Native.Nat.{◌+◌}
 use native.Mathlib.Omega.{arith}
-use Rattle.meaning.specs.Laws.Shaped.{few_types}
 use Rattle.sheet.specs.Counts.{types_high}
 use Rattle.type_heads.specs.Classes.{classed_more, classed_skip, led_low}
 use Rattle.type_heads.proofs.classify.Goals as goal

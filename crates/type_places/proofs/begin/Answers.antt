@@ -1,6 +1,6 @@
 -- `type_places::begin` meets its contract: kind by kind, by the laws of specs/Firsts.
 use mathlib.Core.Path.{sym, ap, ◌∙◌}
-use mathlib.Core.Logic.{inr, ⊎_elim}
+use mathlib.Core.Logic.{inr}
 use native.Mathlib.Omega.{arith}
 use lib.ListN.{get_or}
 use borrow.Author.Tests.{eq-eqb, ne_eqb}

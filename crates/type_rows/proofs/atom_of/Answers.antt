@@ -1,4 +1,3 @@
--- Made by tools/cycle from tools/answers/type_rows/atom_of: change that, and run tools/proofs type_rows.
 -- `type_rows::atom_of` meets its contract, by the row's kind.
 use native.Mathlib.Omega.{arith}
 use mathlib.Core.Path.{ap, ◌∙◌}

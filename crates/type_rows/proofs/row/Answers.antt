@@ -1,4 +1,3 @@
--- Made by tools/cycle from tools/answers/type_rows/row: change that, and run tools/proofs type_rows.
 -- `type_rows::row` meets its contract: a row of the sheet, or one of those lent.
 use native.Mathlib.Omega.{arith}
 use Rattle.type_rows.proofs.Laws.{read_sheet, read_work}

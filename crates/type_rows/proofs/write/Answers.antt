@@ -1,4 +1,3 @@
--- Made by tools/cycle from tools/answers/type_rows/write: change that, and run tools/proofs type_rows.
 -- `type_rows::write` meets its contract: a unit, and the row after the last.
 use native.Mathlib.Omega.{arith}
 use mathlib.Core.Path.{refl}

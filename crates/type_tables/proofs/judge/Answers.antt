@@ -1,4 +1,3 @@
--- Made by tools/cycle from tools/answers/type_tables/judge: change that, and run tools/proofs type_tables.
 -- `type_tables::judge` meets its contract: Barren, Tie, or the tables as they were made, with End where a row may be empty.
 use Prim.Native.Nat.{ℕ}
 use native.Mathlib.Omega.{arith}

@@ -1,5 +1,3 @@
-use Prim.Native.Nat.{◌-◌}
-use mathlib.Core.Bool.{true}
 use native.Mathlib.Omega.{arith}
 use Rattle.type_ties.specs.Points.{lowest_in, lowest_from, below_none, below_more, first_here, none_here}
 use Rattle.type_ties.proofs.at_point.Goals as goal

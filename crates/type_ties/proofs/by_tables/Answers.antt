@@ -1,4 +1,3 @@
--- Made by tools/cycle from tools/answers/type_ties/by_tables: change that, and run tools/proofs type_ties.
 -- `type_ties::by_tables` meets its contract: the tables are the sheet's, so the lowest tie of the points is its lowest tie.
 use Prim.Native.Nat.{ℕ}
 use mathlib.Core.Path.{refl}

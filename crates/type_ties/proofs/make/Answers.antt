@@ -1,4 +1,3 @@
--- Made by tools/cycle from tools/answers/type_ties/make: change that, and run tools/proofs type_ties.
 -- `type_ties::make` meets its contract: each table is made over those before.
 use native.Mathlib.Omega.{arith}
 use Rattle.sheet.specs.Laid.{types_lie}

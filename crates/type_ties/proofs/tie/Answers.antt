@@ -1,4 +1,4 @@
-use Prim.Native.Nat.{◌-◌, ◌+◌}
+use Prim.Native.Nat.{◌+◌}
 use native.Mathlib.Omega.{arith}
 use Rattle.sheet.specs.Counts.{types_high}
 use Rattle.type_ties.specs.Points.{upto_none, upto_more, upto_all}

@@ -1,4 +1,3 @@
--- Made by tools/cycle from tools/answers/type_ties/tie_in: change that, and run tools/proofs type_ties.
 -- `type_ties::tie_in` meets its contract: no two places of one head, or the lowest tie of the points.
 use Rattle.type_ties.specs.Sound.{says_apart, says_tie}
 use Rattle.type_ties.proofs.tie_in.Goals as goal

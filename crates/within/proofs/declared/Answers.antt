@@ -1,4 +1,3 @@
--- Made by tools/cycle from tools/answers/within/declared: change that, and run tools/proofs within.
 -- `within::declared` meets its contract: the type is written out, its points are taken, and whether it lies within the row is the answer.
 use Rattle.meaning.specs.Sheet.{Cells, script_of}
 use mathlib.Core.Path.{refl, sym, ap, ◌∙◌}

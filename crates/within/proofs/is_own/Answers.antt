@@ -1,4 +1,3 @@
--- Made by tools/cycle from tools/answers/within/is_own: change that, and run tools/proofs within.
 -- `within::is_own` meets its contract: the same rows are the same type, and it is the one written out.
 use mathlib.Core.Path.{refl, ◌∙◌}
 use mathlib.Core.Bool.{false≢true}

@@ -1,4 +1,3 @@
--- Made by tools/cycle from tools/answers/within/plain: change that, and run tools/proofs within.
 -- `within::plain` meets its contract: the type is written out, and its sum is the answer.
 use mathlib.Core.Path.{refl, sym, ◌∙◌}
 use native.Mathlib.Omega.{arith}

@@ -1,4 +1,3 @@
--- Made by tools/cycle from tools/answers/within/same_rows: change that, and run tools/proofs within.
 -- `within::same_rows` meets its contract. The loop's invariant: the bytes before i are the same.
 use Prim.Native.Nat.{ℕ, ◌≤◌, ◌<◌, ◌-◌, ◌*◌}
 use mathlib.Core.Path.{◌≡◌}

@@ -1,4 +1,3 @@
-use Prim.Native.Nat.{◌-◌}
 use native.Mathlib.Omega.{arith}
 use Rattle.within.specs.Plain.{summed_none, summed_more}
 use Rattle.within.proofs.sum_up.Goals as goal

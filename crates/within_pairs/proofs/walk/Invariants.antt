@@ -5,7 +5,7 @@ use Rattle.within_pairs.specs.Reach.{Walking}
 use Rattle.within_pairs.proofs.walk.Given as goal
 
 abbrev pub invariant-loop-a : goal.invariant-loop-a
-invariant-loop-a l =     Walking (row3 l.x l.at l.n) l.first l.behind l.kin l.s l.opens l.nexts l.same l.initial.pending l.initial.done l.initial.fresh l.met l.pending l.done l.fresh l.a
+invariant-loop-a l = Walking (row3 l.x l.at l.n) l.first l.behind l.kin l.s l.opens l.nexts l.same l.initial.pending l.initial.done l.initial.fresh l.met l.pending l.done l.fresh l.a
 
 abbrev pub decreases-loop-a : goal.decreases-loop-a
-decreases-loop-a l =     missing l.done
+decreases-loop-a l = missing l.done

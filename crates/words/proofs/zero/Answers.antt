@@ -1,5 +1,4 @@
 use mathlib.Core.Path.{◌≡◌, refl, sym, ap, ◌∙◌}
-use Prim.Native.Nat.{◌-◌}
 use native.Mathlib.Omega.{arith}
 use lib.ListN.{length, length-set}
 use Rattle.words.specs.Puts.{zeros, zeros_none, zeros_more, zeros_all}
@@ -28,5 +27,6 @@ pub shape_of-b : goal.shape_of-b
 shape_of-b c = c.loop-i.invariant.1
 
 pub returns : goal.returns
-returns c =     let e : c.loop-i.i ≡ length c.args.b.now = omega arith in
+returns c =
+    let e : c.loop-i.i ≡ length c.args.b.now = omega arith in
     c.loop-i.invariant.0 ∙ ap (zeros c.args.b.now) e ∙ zeros_all c.args.b.now

@@ -1,6 +1,6 @@
 use native.Mathlib.Omega.{arith}
 use mathlib.Core.Path.{sym, ap, ◌∙◌}
-use Prim.Native.Nat.{ℕ, ◌+◌, ◌-◌}
+use Prim.Native.Nat.{ℕ, ◌+◌}
 use Rattle.meaning.specs.Forest.{bytes_from, equal_bytes}
 use Rattle.forest_rows.proofs.texts.Bytes.{pool, pool_byte, other_size, rest_start, rest_more, rest_other, rest_none}
 use Rattle.forest_rows.proofs.texts.same_bytes.Goals as goal

@@ -1,4 +1,3 @@
--- Made by tools/cycle from tools/answers/listing.lines/field: change that, and run tools/proofs listing.lines.
 -- `listing::lines::field` meets its contract: a space, then the digits.
 use native.Mathlib.Omega.{arith}
 use mathlib.Core.Path.{◌∙◌}

@@ -1,4 +1,3 @@
--- Made by tools/cycle from tools/answers/listing.lines/fields1: change that, and run tools/proofs listing.lines.
 -- `listing::lines::fields1` meets its contract: a field, then the line's end.
 use native.Mathlib.Omega.{arith}
 use mathlib.Core.Path.{sym, ◌∙◌, ap}

@@ -1,4 +1,3 @@
--- Made by tools/cycle from tools/answers/listing.lines/fields3: change that, and run tools/proofs listing.lines.
 -- `listing::lines::fields3` meets its contract: a field, then the others.
 use native.Mathlib.Omega.{arith}
 use mathlib.Core.Path.{sym, ◌∙◌}

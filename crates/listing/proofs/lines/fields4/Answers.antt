@@ -1,4 +1,3 @@
--- Made by tools/cycle from tools/answers/listing.lines/fields4: change that, and run tools/proofs listing.lines.
 -- `listing::lines::fields4` meets its contract: a field, then the others.
 use native.Mathlib.Omega.{arith}
 use mathlib.Core.Path.{sym, ◌∙◌}

@@ -1,4 +1,3 @@
--- Made by tools/cycle from tools/answers/listing.lines/put: change that, and run tools/proofs listing.lines.
 -- `listing::lines::put` meets its contract: a byte is stored behind the first.
 use Rattle.listing.specs.Adds.{adds_byte}
 use Rattle.listing.proofs.lines.put.Goals as goal

@@ -1,4 +1,3 @@
--- Made by tools/cycle from tools/answers/listing.lines/row: change that, and run tools/proofs listing.lines.
 -- `listing::lines::row` meets its contract: the row's number, then its words.
 use native.Mathlib.Omega.{arith}
 use mathlib.Core.Path.{refl, ◌∙◌}

@@ -1,4 +1,3 @@
--- Made by tools/cycle from tools/answers/listing.lines/rows: change that, and run tools/proofs listing.lines.
 -- `listing::lines::rows` meets its contract: after n turns the lines of the first n rows stand there.
 use Prim.Native.Nat.{◌+◌, ◌*◌, ◌-◌, ◌≤◌}
 use Rattle.meaning.specs.Listing.{row_lines}

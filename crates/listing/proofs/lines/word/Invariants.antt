@@ -1,4 +1,3 @@
--- Made by tools/cycle from tools/answers/listing.lines/word: change that, and run tools/proofs listing.lines.
 -- `listing::lines::word` meets its contract: after i turns the first i bytes stand there.
 use Prim.Native.Nat.{◌+◌, ◌-◌, ◌≤◌}
 use lib.ListN.{length, take}

@@ -9,7 +9,7 @@ use Rattle.meaning.specs.Faults.{ends}
 use Rattle.meaning.specs.Reply.{unfit, scratch, room, Answer, done, refused, Loads, Checked, Fitted, misfits, Ran, no_room, Applied, unfitted, applied}
 use Rattle.meaning.specs.Listing.{lent_work}
 use Rattle.meaning.specs.Theorems.Single.{one_apply}
-use Rattle.meaning.specs.Theorems.Worked.{worked, edited, seven, whole, run_whole}
+use Rattle.meaning.specs.Theorems.Worked.{worked, edited, whole, run_whole}
 use Rattle.meaning.specs.Theorems.Worked.Sheets.{Row, tr, row, joined, s1}
 use Rattle.meaning.specs.Theorems.Worked.Stated.{tables, shape, ties, runs, checks, Checks, loads, answers, in_itself}
 use Rattle.meaning.specs.Theorems.Refuted.Calls.{Run, MeetsApply, codes, two_answers, two_numbers, differ, two_bytes, work_rows, skipping}

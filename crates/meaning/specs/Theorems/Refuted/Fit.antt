@@ -14,7 +14,7 @@ use Rattle.meaning.specs.Types.{Ty, Named, Head, Of, of_empty, of_label, of_seq,
 use Rattle.meaning.specs.Walk.{paid, of_output}
 use Rattle.meaning.specs.Walk as walk
 use Rattle.meaning.specs.Check.{fails}
-use Rattle.meaning.specs.Reply.{tie, outside, unfit, Refusal, Answer, done, refused, Loads, Checked, Fitted, no_row, unsound, fits, misfits, Ran, Applied, unchecked, unfitted}
+use Rattle.meaning.specs.Reply.{tie, outside, unfit, Refusal, Answer, done, refused, Loads, Checked, Fitted, no_row, fits, misfits, Ran, Applied, unchecked, unfitted}
 use Rattle.meaning.specs.Listing.{lent_work, lent_result}
 use Rattle.meaning.specs.Laws.Bools.{or_cases}
 use Rattle.meaning.specs.Laws.Points.{heads_differ}

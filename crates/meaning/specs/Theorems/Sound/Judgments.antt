@@ -35,7 +35,7 @@ use Rattle.meaning.specs.Run.{
   query,
   statement,
 }
-use Rattle.meaning.specs.Check.{Types, tests, declaration, body}
+use Rattle.meaning.specs.Check.{Types, tests, declaration}
 use Rattle.meaning.specs.Figures.{
   k_none,
   k_tree,

@@ -1,7 +1,7 @@
 -- Refusal 11 is a run's alone: no load, check or fit is Stuck. And a check gives no Mismatch at a query of kind 11: Shape has it name a tree variable, and the type of that is an atom.
 -- For check by the closure scheme `Safe` of walks.
 use Prim.Native.Nat.{ℕ, zero, suc, ◌≤◌}
-use Rattle.std.specs.Prelude.{◌≡◌, Bool, true, false, ◌&&◌, get_or}
+use Rattle.std.specs.Prelude.{◌≡◌, Bool, true, ◌&&◌, get_or}
 use Rattle.std.proofs.Math.Path.{refl}
 use Rattle.std.proofs.Common.{sym, ap, ◌∙◌, arith}
 use Rattle.std.proofs.lemmas.Bool.{false≢true}

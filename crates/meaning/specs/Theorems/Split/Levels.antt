@@ -1,13 +1,13 @@
 -- One walk of a run goes as another does, up to where it stops for depth. So do the walks of one row from fewer levels of depth and from
 -- more, in scopes that differ only in what no row under it names.
-use Prim.Native.Nat.{ℕ, zero, suc, ◌+◌, ◌≤◌, ◌<◌}
+use Prim.Native.Nat.{ℕ, zero, suc, ◌+◌, ◌≤◌}
 use Rattle.std.specs.Prelude.{◌≡◌, refl, Bool, true, false, ◌&&◌, leb, get_or, length}
-use Rattle.std.proofs.Common.{sym, ◌∙◌, ap, ap₂, arith, length-append, leb-true}
+use Rattle.std.proofs.Common.{sym, ◌∙◌, ap, arith, length-append, leb-true}
 use mathlib.Core.List.{List, [], ◌∷◌, ◌++◌}
 use Rattle.meaning.specs.Sheet.{Script}
 use Rattle.meaning.specs.Kinds.{Query, Statement, query_at, statement_at}
-use Rattle.meaning.specs.Forest.{Text, Tree, Forest, nil, cons, only, ◌⊕◌, count, bytes_from, text_at, equal_bytes}
-use Rattle.meaning.specs.Walk.{Stop, depth, wide, mismatch, outside, stuck, Place, of_query, of_statement, ret, halt, tick, ◌>>=◌}
+use Rattle.meaning.specs.Forest.{Text, Tree, Forest, nil, cons, only, ◌⊕◌, count, text_at}
+use Rattle.meaning.specs.Walk.{depth, wide, mismatch, outside, stuck, Place, of_query, of_statement, ret, halt, tick, ◌>>=◌}
 use Rattle.meaning.specs.Walk.{pay, Quiet, Unasked, Verdict, gives, fuel, stops, Settles, done, halted, short, paid}
 use Rattle.meaning.specs.Run.{Env, Seen, nothing, many, a_text, a_bool, a_node, seen, Fate, misfit, matched, passed, tested, inside}
 use Rattle.meaning.specs.Run.{kept, copied, each, branch, same_texts, query_of, insert_of, rename_of, test_of, children_of, arguments}

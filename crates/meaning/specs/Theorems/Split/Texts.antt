@@ -7,9 +7,9 @@ use Rattle.std.proofs.Common.{ap, arith, leb-true}
 use Rattle.meaning.specs.Tests.{in_table}
 use Rattle.meaning.specs.Sheet.{Sheet, queries_of, script_of, grove_of, sheet_of}
 use Rattle.meaning.specs.Kinds.{query_form, query_at}
-use Rattle.meaning.specs.Forest.{Text, bytes_from, text_at}
+use Rattle.meaning.specs.Forest.{bytes_from, text_at}
 use Rattle.meaning.specs.Shape.{word_ok, words_ok, query_uses, shapely}
-use Rattle.meaning.specs.Laws.Bools.{and_left, and_right}
+use Rattle.meaning.specs.Laws.Bools.{and_left}
 use Rattle.meaning.specs.Laws.Shaped.{cells, queries_say, queries_pass}
 use Rattle.meaning.specs.Theorems.Split.Levels.{SameText}
 

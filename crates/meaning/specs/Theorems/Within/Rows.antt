@@ -1,6 +1,6 @@
 -- The types at the rows of a table as sides. Found: rows of any table beside a sheet that has no barren name; every place lives, for every content has a forest.
 -- Wanted: declared types and contents of a sheet without ties; no point has two places of one head. What a row's points admit is what is of its type (Theorems/Places).
-use Rattle.std.specs.Prelude.{ℕ, ◌-◌, ◌≤◌, ◌<◌, ◌≡◌, Bool, true, false, ◌&&◌, ◌||◌, not, List, ◌↔◌, eqb, ltb}
+use Rattle.std.specs.Prelude.{ℕ, ◌≤◌, ◌<◌, ◌≡◌, Bool, true, false, ◌&&◌, ◌||◌, not, List, ◌↔◌, eqb, ltb}
 use Rattle.std.proofs.Math.Path.{refl, fun_ext}
 use Rattle.std.proofs.Common.{inl, inr, arith, eq-eqb, ne_eqb, ltb-true, lt-ltb}
 use Rattle.std.proofs.Math.Decide.{ℕ_discrete}
@@ -9,7 +9,7 @@ use Rattle.meaning.specs.Sheet.{Cells, Script, script_of}
 use Rattle.meaning.specs.Kinds.{type_form}
 use Rattle.meaning.specs.Forest.{Tree, Forest, nil, cons}
 use Rattle.meaning.specs.Types.{Named, Head, Of, Fertile, ty_at, declared, names_in}
-use Rattle.meaning.specs.Places.{Model, model, model_at, first, follows, same_head, acting, head_at, model_in, Fits, Admits, rivals, is_declared, is_content, tied, Untied, NoneBarren}
+use Rattle.meaning.specs.Places.{Model, model_at, first, follows, same_head, acting, head_at, model_in, Fits, Admits, rivals, is_declared, is_content, tied, Untied, NoneBarren}
 use Rattle.meaning.specs.Shape.{shapely}
 use Rattle.meaning.specs.Laws.Bools.{or_left, or_right, and_left, and_right, and_both, either, not_both}
 use Rattle.meaning.specs.Laws.Tests.{in_table_lem, table_low, table_high, some_at}

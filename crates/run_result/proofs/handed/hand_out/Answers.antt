@@ -4,10 +4,11 @@ use Rattle.run_result.specs.Hands.{room_short, room_exact, room_enough}
 use Rattle.run_result.proofs.handed.hand_out.Goals as goal
 
 pub returns-then-room-n : goal.returns-then-room-n
-returns-then-room-n c =     room_short c.args.res.now c.rows_lent-room.ensures c.count-n.ensures c.if-room-n.true
+returns-then-room-n c = room_short c.args.res.now c.rows_lent-room.ensures c.count-n.ensures c.if-room-n.true
 
 pub write-requires : goal.write-requires
-write-requires c =     let exact = room_exact c.args.res.now c.rows_lent-room.ensures c.count-n.ensures c.if-room-n.false in
+write-requires c =
+    let exact = room_exact c.args.res.now c.rows_lent-room.ensures c.count-n.ensures c.if-room-n.false in
     record {
       readable = c.requires;
       fits = λ byte. omega (arith, exact byte);
@@ -15,4 +16,4 @@ write-requires c =     let exact = room_exact c.args.res.now c.rows_lent-room.en
     }
 
 pub returns : goal.returns
-returns c =     room_enough c.args.res.now c.rows_lent-room.ensures c.count-n.ensures c.if-room-n.false c.write.ensures
+returns c = room_enough c.args.res.now c.rows_lent-room.ensures c.count-n.ensures c.if-room-n.false c.write.ensures

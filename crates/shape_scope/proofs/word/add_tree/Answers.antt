@@ -18,6 +18,7 @@ pub overflow_add-result-2 : goal.overflow_add-result-2
 overflow_add-result-2 c = omega (arith, power_small c.count.result c.power.result (omega (arith, c.count.ensures.1, room c.args.x c.requires.1)) c.power.ensures, below_pow c.args.x c.requires.0 (room c.args.x c.requires.1))
 
 pub returns : goal.returns
-returns c =     let x = c.args.x in
+returns c =
+    let x = c.args.x in
     let e : x + 1 + 32 * c.power.result ≡ x + 1 + 32 * 2 ^ (x % 32) = ap (λ (y : ℕ). x + 1 + 32 * y) (c.power.ensures ∙ ap (λ (n : ℕ). 2 ^ n) c.count.ensures.1) in
     (tree_more x (x + 1 + 32 * c.power.result) c.requires.0 (room c.args.x c.requires.1) e, tree_neat x (x + 1 + 32 * c.power.result) c.requires.0 (room c.args.x c.requires.1) e)

@@ -1,4 +1,4 @@
-use Prim.Native.Nat.{◌*◌, ◌-◌}
+use Prim.Native.Nat.{◌*◌}
 use Rattle.type_rows.proofs.parts.+picked.Given as goal
 
 abbrev pub decreases-picked : goal.decreases-picked

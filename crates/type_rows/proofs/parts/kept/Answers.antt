@@ -1,4 +1,3 @@
--- Made by tools/cycle from tools/answers/type_rows.parts/kept: change that, and run tools/proofs type_rows.parts.
 -- `type_rows::parts::kept` meets its contract, by what the row acts as.
 use mathlib.Core.Path.{refl}
 use Rattle.type_rows.specs.Finds.{acts_other, acts_text, acts_bool, acts_label}

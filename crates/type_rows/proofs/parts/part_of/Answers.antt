@@ -1,4 +1,3 @@
--- Made by tools/cycle from tools/answers/type_rows.parts/part_of: change that, and run tools/proofs type_rows.parts.
 -- `type_rows::parts::part_of` meets its contract, by the row's kind.
 use Rattle.sheet.specs.Laid.{cells_of}
 use Rattle.type_rows.specs.Parts.{text_part, bool_part, label_part, name_part, seq_part, choice_part, star_part, no_part}

@@ -1,4 +1,3 @@
--- Made by tools/cycle from tools/answers/within.row/in_row: change that, and run tools/proofs within.row.
 -- `within::row::in_row` meets its contract: the tables are those that the walks ask for.
 use mathlib.Core.Path.{refl}
 use native.Mathlib.Omega.{arith}

@@ -1,5 +1,4 @@
 use native.Mathlib.Omega.{arith}
-use Prim.Native.Nat.{◌-◌}
 use Rattle.within_pairs.specs.Meet.{meeting_none, meeting_more, no_rival, all_met, no_end, goes_on}
 use Rattle.within_pairs.proofs.pending.meet.Goals as goal
 
