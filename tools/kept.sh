@@ -1,32 +1,21 @@
-# Sourced by tools/archive and tools/unproved: the kit again, by links, with a compiler that keeps the module and the words it is handed.
-# They set `kept`, the folder where these stay.
-machine=$(uname -m)
-kit=$(dirname "$(dirname "$(rt doc)")")
-tools=on/$machine/toolchain
-clang=$kit/$tools/bin/clang
+# Sourced by tools/archive, tools/unproved, tools/edit and bench/build: where the kit is, what the crates use and where their libraries are,
+# and a compiler that keeps the module and the words that it is handed, in the folder `kept`. The kit is for x86-64 alone.
+kit=$(dirname "$(rt doc)")
+clang=$kit/toolchain/bin/clang
 
-# Links to all that a folder of the kit holds but one.
-link_all_but() { # NAME FOLDER
+# The kit's toolchain again, by links, at $kept/toolchain. Of several compilations the module and the words that have WORD stay in $kept.
+keep_modules() { # WORD
     local one
-    mkdir -p "$kept/kit/$2"
-    for one in "$kit/$2"/*; do
-        [ "$(basename "$one")" = "$1" ] || ln -s "$one" "$kept/kit/$2/"
+    mkdir -p "$kept/toolchain/bin"
+    for one in "$kit"/toolchain/* "$kit"/toolchain/bin/*; do
+        case $one in */bin | */clang) ;; *) ln -s "$one" "$kept/${one#"$kit/"}" ;; esac
     done
-}
-
-# Of several compilations the module and the words that have -O3 stay.
-make_kit() {
-    rm -rf "$kept"
-    link_all_but on .
-    link_all_but toolchain "on/$machine"
-    link_all_but bin "$tools"
-    link_all_but clang "$tools/bin"
-    cat >"$kept/kit/$tools/bin/clang" <<END
+    cat >"$kept/toolchain/bin/clang" <<END
 #!/bin/sh
-case " \$* " in *" -O3 "*) cp module.bc "$kept/module.bc" && printf '%s\n' "\$@" >"$kept/words" ;; esac
+case " \$* " in *" $1 "*) cp module.bc "$kept/module.bc" && printf '%s\n' "\$@" >"$kept/words" ;; esac
 exec "$clang" "\$@"
 END
-    chmod +x "$kept/kit/$tools/bin/clang"
+    chmod +x "$kept/toolchain/bin/clang"
 }
 
 # The kept module as text.
@@ -34,32 +23,40 @@ module_as_text() {
     "$clang" --target=x86_64-unknown-linux-gnu -S -emit-llvm -x ir "$kept/module.bc" -Xclang -disable-llvm-passes -o -
 }
 
-# What is left of a module without what makes it one for x86-64, compiled for this machine by the kept words.
-compile_here() { # OBJECT
-    sed -e 's/ "target-cpu"="x86-64"//' -e '/^target /d' >"$kept/module.ll"
-    sed -e "s/^--target=.*/--target=$machine-unknown-linux-gnu/" -e '/^-march=/d' \
-        -e 's/^module.bc$/module.ll/' -e "s/^module.o$/$1/" "$kept/words" >"$kept/words.$machine"
-    (cd "$kept" && xargs -d '\n' -a "words.$machine" "$clang" -Wno-override-module)
+# What a crate uses: by the crates.txt of the current folder, and std; or as the kit's library.
+uses_of() { # CRATE
+    if [ -d "crates/$1" ]; then
+        echo std
+        sed -nE "s/^$1( +staticlib)? *: *//p" crates.txt | tr -s ' ' '\n'
+    else
+        sed -n 's/^dep //p' "$kit/rlibs/$1.rlib/format"
+    fi
 }
 
-# The crates that one reaches, of the repository in the current folder and of the kit, itself first.
-reached_by() { # CRATE
-    awk -v want="$1" '
-        { sub(/#.*/, "") }
-        /:/ { name = $1; sub(/:.*/, "", name); rest = $0; sub(/^[^:]*:/, "", rest); deps[name] = rest }
-        function visit(name,    parts, count, i) {
-            if (name in seen) return
-            seen[name] = 1
-            print name
-            count = split(deps[name], parts, " ")
-            for (i = 1; i <= count; i++) visit(parts[i])
-        }
-        END { visit(want) }' crates.txt "$kit/libs/libs.txt"
+# The crates below one, of the repository in the current folder and of the kit.
+below() { # CRATE
+    local seen=" " todo=$1 one
+    while [ -n "$todo" ]; do
+        one=${todo%% *}
+        todo=$(echo ${todo#"$one"})
+        case $seen in *" $one "*) continue ;; esac
+        seen+="$one "
+        todo+=" $(uses_of "$one" | paste -sd' ')"
+        todo=$(echo $todo)
+    done
+    tr ' ' '\n' <<<"$seen" | grep -vxF -e '' -e "$1"
 }
 
-# The lines of rt, on standard error, with the count of the crates that are proved before this one; the repository is the current folder.
-counted() { # CRATE
-    local all
-    all=$(reached_by "$1" | tail -n +2 | while read -r name; do [ ! -d "crates/$name" ] || echo "$name"; done | wc -l)
-    awk -v all="$all" '/^rt: [a-z_0-9]+ proved/ { sub(/^rt:/, "rt: [" ++n " of " all "]") } { print; fflush() }' >&2
+# rattle's words for a crate, for where its src/ stands: over the libraries that `rt check` left in each out/ of the current folder's crates.
+words_of() { # CRATE
+    local one root=src/lib.rt
+    [ ! -f "crates/$1/src/main.rt" ] || root=src/main.rt
+    printf '%s\n' --crate-name "$1" "$root"
+    ! grep -qE "^$1 +staticlib" crates.txt || printf '%s\n' --crate-type staticlib
+    uses_of "$1" | while read -r one; do
+        echo --extern
+        if [ -d "crates/$one" ]; then echo "$one=$PWD/crates/$one/out/rlib/$one.rlib"; else echo "$one=$kit/rlibs/$one.rlib"; fi
+    done
+    below "$1" | while read -r one; do [ ! -d "crates/$one" ] || printf '%s\n' -L "dependency=$PWD/crates/$one/out/rlib"; done
+    printf '%s\n' -L "dependency=$kit/rlibs" --antt-project "$kit/rattle/logic/antt-project.json" --logic-built "$kit/logic_built"
 }

@@ -1,6 +1,7 @@
 -- The binary digits of a number, and what or, and, a shift to the right, trailing zeros and the count of ones do to them.
 use Rattle.std.specs.Prelude.{◌≡◌, refl, ◌&&◌, ◌||◌, ℕ, zero, suc, ◌+◌, ◌*◌, ◌/◌, ◌%◌, ◌^◌, ◌≤◌, ◌<◌, max, min, eqb}
-use Rattle.std.proofs.Common.{ap, ◌∙◌, suc-le-suc, div-one, mod-lt, pow-suc, mul_comm, mul-div_cancel, zero-lt-suc, one-mul, not-suc-le-zero, le_of_suc-le-suc, arith, lit<, pow_pos, pow-add, shl_exact}
+use Rattle.std.proofs.Common.{ap, ◌∙◌, suc-le-suc, div-one, mod-lt, pow-suc, mul_comm, mul-div_cancel, zero-lt-suc, one-mul, not-suc-le-zero}
+use Rattle.std.proofs.Common.{le_of_suc-le-suc, arith, lit<, pow_pos, pow-add, shl_exact}
 use Rattle.std.proofs.Math.Nat.{zero-div, div_self, div-div-eq-div-mul, mul-mod_left}
 use Rattle.std.proofs.Math.Arith.{lt-one}
 use Rattle.std.specs.Int.Bits.{bit_or, bit_and, or_step, and_step}

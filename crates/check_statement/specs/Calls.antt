@@ -70,7 +70,8 @@ module _ (s : List ℕ) (e : shapely s ≡ true) where
     one = (script_of s).procedure_row c
 
     abbrev signs : ℕ → ℕ → Bool
-    signs w i = eqb ((script_of s).procedure_row i).first w || eqb ((script_of s).procedure_row i).second w || eqb ((script_of s).procedure_row i).input w || eqb ((script_of s).procedure_row i).output w
+    signs w i = eqb ((script_of s).procedure_row i).first w || eqb ((script_of s).procedure_row i).second w || eqb ((script_of s).procedure_row i).input w
+        || eqb ((script_of s).procedure_row i).output w
 
     signed : (w : ℕ) → in_table (script_of s).types w ≡ true → signs w c ≡ true → Wanted s w
     signed w r h = record {

@@ -154,7 +154,8 @@ module _ {s lent : List ℕ} (b : Begun s lent) where
       let v = settles_settle (run_walk (sheet_of s)) (sheet_of s).run_fuel p.left (stops meaning.depth) h.by in
       record { said = ended {units = units} b.loads b.rows (ap verdict_answer v.0) (omega (arith, v.1)) }
 
-  pub stop_stuck : (result : List ℕ) {row flag : ℕ} {p : Purse} {units n : ℕ} → n ≡ (sheet_of s).run_fuel → Stopped (run_walk (sheet_of s)) (sheet_of s).run_fuel (Stuck row flag p) → units + p.left ≡ n
+  pub stop_stuck : (result : List ℕ) {row flag : ℕ} {p : Purse} {units n : ℕ} → n ≡ (sheet_of s).run_fuel
+      → Stopped (run_walk (sheet_of s)) (sheet_of s).run_fuel (Stuck row flag p) → units + p.left ≡ n
       → Says s lent result (ran.Stuck row flag units) result
   stop_stuck result {row} {flag} {p} {units} en h eu =
       let v = settles_settle (run_walk (sheet_of s)) (sheet_of s).run_fuel p.left (stops (meaning.stuck (record { row = row; flag = flag }))) h.by in

@@ -164,7 +164,8 @@ module _ (byte : ℕ → ℕ) {s t : List ℕ} {used r left row : ℕ} (left' : 
         pub one_links : Links (forest_at byte (lent_row t') link)
         one_links = rw link_kept ls
 
-        one_leads : Leads Unasked (turn_of b (alone (forest_at byte (lent_row s) r)) (forest_at byte (lent_row s) link)) left (keep_of (forest_at byte (lent_row t') link) (forest_at byte (lent_row t') root))
+        one_leads : Leads Unasked (turn_of b (alone (forest_at byte (lent_row s) r)) (forest_at byte (lent_row s) link)) left
+            (keep_of (forest_at byte (lent_row t') link) (forest_at byte (lent_row t') root))
             left''
         one_leads = λ v m x.
             let body : Settles Unasked (b (alone (forest_at byte (lent_row s) r))) left' (gives (forest_at byte (lent_row t') root)) left'' =

@@ -78,7 +78,8 @@ module _ (S : Script) (byte : ℕ → ℕ) where
     -- row i, a statement, takes the focus to a value
     pub data Takes : Env → ℕ → Forest → Forest → Type 0 where
       t_skip : {γ : Env} {i : ℕ} {f : Forest} → statement_at S i ≡ Statement.skip → Takes γ i f f
-      t_then : {γ : Env} {i p q : ℕ} {f g h : Forest} → statement_at S i ≡ Statement.then p q → Takes γ p f g → Takes γ q g h → Takes γ i f h
+      t_then : {γ : Env} {i p q : ℕ} {f g h : Forest} → statement_at S i ≡ Statement.then p q → Takes γ p f g
+          → Takes γ q g h → Takes γ i f h
       t_if_true : {γ : Env} {i p q r : ℕ} {f g : Forest} → statement_at S i ≡ Statement.if p q r → Gives γ p (only (Tree.bool true))
           → Takes γ q f g → Takes γ i f g
       t_if_false : {γ : Env} {i p q r : ℕ} {f g : Forest} → statement_at S i ≡ Statement.if p q r → Gives γ p (only (Tree.bool false))

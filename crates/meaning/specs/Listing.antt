@@ -51,7 +51,8 @@ carried r = (refusal_code r).a
 unfoldable pub row_lines : List ℕ → ℕ → List ℕ
 row_lines b zero = []
 row_lines b (suc n) = row_lines b n ++ digits 8 (suc n)
-    ++ fields (word_at b (row_words * n) ∷ word_at b (row_words * n + 1) ∷ word_at b (row_words * n + 2) ∷ word_at b (row_words * n + 3) ∷ [])
+    ++ fields (word_at b (row_words * n) ∷ word_at b (row_words * n + 1)
+    ∷ word_at b (row_words * n + 2) ∷ word_at b (row_words * n + 3) ∷ [])
 
 unfoldable pub listing : Told → List ℕ
 listing (loaded r) = line "load" (number r ∷ [])

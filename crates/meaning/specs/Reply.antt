@@ -97,7 +97,8 @@ pub data Checked (s work : List ℕ) : Answer → ℕ → Type 0 where
 pub data Fitted (s : List ℕ) (t : ℕ) : Answer → Type 0 where
   no_row : in_table (script_of s).types t ≡ false → Fitted s t (refused shape)
   unsound : {r : Refusal} → in_table (script_of s).types t ≡ true → Loads s (refused r) → Fitted s t (refused r)
-  fits : in_table (script_of s).types t ≡ true → Loads s done → Of (names_in (script_of s)) (declared (script_of s) t) (forest_of (grove_of s))
+  fits : in_table (script_of s).types t ≡ true → Loads s done
+      → Of (names_in (script_of s)) (declared (script_of s) t) (forest_of (grove_of s))
       → Fitted s t done
   misfits : {x : ℕ} → in_table (script_of s).types t ≡ true → Loads s done → FaultOf s t x → Fitted s t (refused (unfit x))
 
@@ -194,5 +195,6 @@ read b lent = copy_if (framed b) block (copy_if (shapely (sheet_in b)) shape
 
 -- 2, then 13
 unfoldable pub write : List ℕ → List ℕ → Copied
-write s lent = copy_if (shapely s) shape (copy_if (leb (block_bytes * blocks_for (need s)) (length lent)) room (copied_in (bundle_of s) lent)
+write s lent = copy_if (shapely s) shape (copy_if (leb (block_bytes * blocks_for (need s)) (length lent)) room
+    (copied_in (bundle_of s) lent)
     lent) lent

@@ -1,6 +1,7 @@
 -- Shape: every rule and limit under "Tables" in document 01, each a test of its own, and all of them together. Refusal 2 is given exactly
 -- if one fails.
-use Rattle.std.specs.Prelude.{ℕ, zero, suc, ◌+◌, ◌-◌, Bool, true, false, ◌&&◌, ◌||◌, not, cond, List, [], ◌∷◌, ◌++◌, eqb, leb, ltb, get_or, length}
+use Rattle.std.specs.Prelude.{ℕ, zero, suc, ◌+◌, ◌-◌, Bool, true, false, ◌&&◌, ◌||◌, not, cond, List, []}
+use Rattle.std.specs.Prelude.{◌∷◌, ◌++◌, eqb, leb, ltb, get_or, length}
 use Rattle.meaning.specs.Limits.{
   most_names,
   most_rows,

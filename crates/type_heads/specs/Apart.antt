@@ -50,7 +50,8 @@ module _ {s seen : List ℕ} {i : ℕ} (f : Seen s seen i) where
       ]
       | no x ↦ elim (ℕ_discrete b (i + 1)) [
         | yes y ↦ absurd (n a (table_low (i + 1) a p) (omega (arith, table_high (i + 1) a p)) (z ∙ ap (head_number s) y) (rw (z ∙ ap (head_number s) y) at l))
-        | no y ↦ f.apart.one a b (in_table_lem i a (table_low (i + 1) a p) (omega (arith, table_high (i + 1) a p))) (in_table_lem i b (table_low (i + 1) b q) (omega (arith, table_high (i + 1) b q))) z l
+        | no y ↦ f.apart.one a b (in_table_lem i a (table_low (i + 1) a p) (omega (arith, table_high (i + 1) a p)))
+            (in_table_lem i b (table_low (i + 1) b q) (omega (arith, table_high (i + 1) b q))) z l
       ]
     ];
   }

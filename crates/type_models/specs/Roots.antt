@@ -88,7 +88,8 @@ module _ (s : List ℕ) where
   named_root y x = eqb ((script_of s).name_row x) y
 
   abbrev pub signed_root : ℕ → ℕ → Bool
-  signed_root y c = eqb ((script_of s).procedure_row c).first y || eqb ((script_of s).procedure_row c).second y || eqb ((script_of s).procedure_row c).input y || eqb ((script_of s).procedure_row c).output y
+  signed_root y c = eqb ((script_of s).procedure_row c).first y || eqb ((script_of s).procedure_row c).second y || eqb ((script_of s).procedure_row c).input y
+      || eqb ((script_of s).procedure_row c).output y
 
   pub signed : (c : ℕ) (row : Procedure) → row ≡ (script_of s).procedure_row c → {old new : List ℕ}
       → Marked old new (λ y. eqb row.first y || eqb row.second y || eqb row.input y || eqb row.output y) → Marked old new (λ y. signed_root y c)

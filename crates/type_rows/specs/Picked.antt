@@ -67,16 +67,19 @@ module _ (s work : List ℕ) (used label of : ℕ) where
 
   -- picked away
   pub away_text : {left : ℕ} {new : List ℕ} {a : Found} → atom_of (names_in (script_of s)) (ty_in s work used of) ≡ types.Atom.text
-      → Finds (written (ty_form (type_form (record { kind = 1; p = 0; q = 0; r = 0 })) (ty_in s work used))) s left used work new a → Finds (pick_of s label (ty_in s work used of)) s left used work new a
+      → Finds (written (ty_form (type_form (record { kind = 1; p = 0; q = 0; r = 0 })) (ty_in s work used))) s left used work new a
+      → Finds (pick_of s label (ty_in s work used of)) s left used work new a
   unfolding tests picked ty_form
   away_text e m = finds_as (acting e) m
 
   pub away_bool : {left : ℕ} {new : List ℕ} {a : Found} → atom_of (names_in (script_of s)) (ty_in s work used of) ≡ types.Atom.bool
-      → Finds (written (ty_form (type_form (record { kind = 1; p = 0; q = 0; r = 0 })) (ty_in s work used))) s left used work new a → Finds (pick_of s label (ty_in s work used of)) s left used work new a
+      → Finds (written (ty_form (type_form (record { kind = 1; p = 0; q = 0; r = 0 })) (ty_in s work used))) s left used work new a
+      → Finds (pick_of s label (ty_in s work used of)) s left used work new a
   unfolding tests picked ty_form
   away_bool e m = finds_as (acting e) m
 
   pub away_label : {left n : ℕ} {τ : Ty} {new : List ℕ} {a : Found} → atom_of (names_in (script_of s)) (ty_in s work used of) ≡ types.Atom.label n τ → (n ≡ label → ⊥)
-      → Finds (written (ty_form (type_form (record { kind = 1; p = 0; q = 0; r = 0 })) (ty_in s work used))) s left used work new a → Finds (pick_of s label (ty_in s work used of)) s left used work new a
+      → Finds (written (ty_form (type_form (record { kind = 1; p = 0; q = 0; r = 0 })) (ty_in s work used))) s left used work new a
+      → Finds (pick_of s label (ty_in s work used of)) s left used work new a
   unfolding tests picked ty_form
   away_label {n = n} e is m = finds_as (acting e ∙ ap (λ (b : Bool). picked (if_so b) (ty_in s work used of)) (ne_eqb n label is)) m

@@ -131,7 +131,8 @@ module _ (s : List ℕ) (e : shapely s ≡ true) where
           let x = some_of (λ r. is_root s r && rivals (script_of s).type_row (script_of s).name_row (script_of s).types (model_of s r) a b) (script_of s).types y in
           tied_at x.0 a b (in_table_lem (script_of s).types x.0 x.1 x.2) (and_left (is_root s x.0) _ x.3) (and_right (is_root s x.0) _ x.3)
 
-      rival_heads : {P : Set} {a b : ℕ} → PointTie s P a b → not (eqb a b) && same_head (head_at (script_of s).type_row (script_of s).name_row a) (head_at (script_of s).type_row (script_of s).name_row b)
+      rival_heads : {P : Set} {a b : ℕ} → PointTie s P a b
+          → not (eqb a b) && same_head (head_at (script_of s).type_row (script_of s).name_row a) (head_at (script_of s).type_row (script_of s).name_row b)
           ≡ true
       rival_heads {P} {a} {b} p =
           let z : head_number s b < 1026 = rw p.head at p.small in

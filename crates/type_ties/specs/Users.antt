@@ -95,7 +95,8 @@ module _ (s : List ℕ) (e : shapely s ≡ true) where
             one,
             here,
             held_hit ((script_of s).type_row k) j z w,
-            total_both (λ i. type_hits j ((script_of s).type_row i)) (script_of s).types i k (table_low (script_of s).types i h) (table_high (script_of s).types i h) p q (λ y. no_side k z (rw y at x)),
+            total_both (λ i. type_hits j ((script_of s).type_row i)) (script_of s).types i k (table_low (script_of s).types i h) (table_high (script_of s).types i h) p q
+                (λ y. no_side k z (rw y at x)),
           )
 
   pub rooted_free : {root : List ℕ} → Rooted s root → Free (script_of s).type_row root (script_of s).types

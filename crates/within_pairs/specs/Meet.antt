@@ -92,7 +92,12 @@ module _ (t : List ℕ) (k : ℕ) (u : List ℕ) (j : ℕ) (kin same : List ℕ)
   }
     where
       is : Rival a b
-      is = record { low = l.onward h; high = h; stands = and_left (in_set u j b) (in_set same (get_or kin a 0) b) (l.here h); like = and_right (in_set u j b) (in_set same (get_or kin a 0) b) (l.here h) }
+      is = record {
+        low = l.onward h;
+        high = h;
+        stands = and_left (in_set u j b) (in_set same (get_or kin a 0) b) (l.here h);
+        like = and_right (in_set u j b) (in_set same (get_or kin a 0) b) (l.here h);
+      }
 
   pub no_rival : {p m d : List ℕ} {a b : ℕ} → Meeting p m d a → a < 576 → LowestBoth u j same (get_or kin a 0) 1 b → 576 ≤ b → Outcome p m d false
   no_rival {a = a} {b = b} w s l h = record {

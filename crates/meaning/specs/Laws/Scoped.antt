@@ -243,7 +243,8 @@ module _ (s : List ℕ) (e : shapely s ≡ true) where
           query_lower (sheet_of s) i c.kind c.p c.q c.r (queries_say (sheet_of s) i (queries_pass s e) h)
       go false h = rw h tt
 
-  words_pass : (i : ℕ) → in_table (script_of s).statements i ≡ true → words_ok (sheet_of s) (statement_uses (script_of s).procedure_row ((script_of s).statement_row i)) i ((script_of s).statement_row i) ≡ true
+  words_pass : (i : ℕ) → in_table (script_of s).statements i ≡ true → words_ok (sheet_of s) (statement_uses (script_of s).procedure_row ((script_of s).statement_row i)) i
+      ((script_of s).statement_row i) ≡ true
   unfolding sheet_of
   words_pass i h = statements_say (sheet_of s) i (statements_pass s e) h
 

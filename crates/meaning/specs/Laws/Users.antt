@@ -36,7 +36,8 @@ hit_row (suc (suc (suc (suc (suc (suc (suc (suc (suc k))))))))) p q r j h = absu
 module _ (s : List ℕ) where
   -- how often row j is named by what is no type row
   abbrev pub outer : ℕ → ℕ
-  outer j = total (λ x. hit j ((script_of s).name_row x)) (script_of s).names + total (λ c. procedure_hits (sheet_of s) j ((script_of s).procedure_row c)) (script_of s).procedures + hit j (script_of s).a
+  outer j = total (λ x. hit j ((script_of s).name_row x)) (script_of s).names
+      + total (λ c. procedure_hits (sheet_of s) j ((script_of s).procedure_row c)) (script_of s).procedures + hit j (script_of s).a
       + hit j (script_of s).b
 
   abbrev pub inner : ℕ → ℕ

@@ -3,7 +3,8 @@ use Prim.Native.Nat.{ℕ, zero, suc, ◌+◌, ◌≤◌, ◌<◌}
 use Rattle.std.specs.Prelude.{◌≡◌, refl}
 use Rattle.std.proofs.Common.{sym, ◌∙◌, ap, subst, add-one}
 use native.Mathlib.Omega.{arith}
-use Rattle.meaning.specs.Walk.{Stop, Walk, ret, halt, tick, ask, ◌>>=◌, pay, Judgement, pass, stop, Verdict, gives, fuel, stops, Settles, done, halted, short, paid, passed, refused, Quiet, Unasked, settle, due}
+use Rattle.meaning.specs.Walk.{Stop, Walk, ret, halt, tick, ask, ◌>>=◌, pay, Judgement, pass, stop, Verdict, gives, fuel, stops, Settles, done}
+use Rattle.meaning.specs.Walk.{halted, short, paid, passed, refused, Quiet, Unasked, settle, due}
 
 module _ {A : Type 0} where
   -- a verdict that is not Fuel

@@ -335,7 +335,8 @@ module _ (s : List ℕ) (e : shapely s ≡ true) where
   name_rows = (script_of s).name_row
 
   -- a forest is of a declared type exactly if the type's places admit it; what is no row is the empty type
-  pub places_say : (r : ℕ) (f : Forest) → Admits type_rows name_rows f (model_in type_rows name_rows r) (start (model_in type_rows name_rows r)) ↔ Of (names_in (script_of s)) (declared (script_of s) r) f
+  pub places_say : (r : ℕ) (f : Forest) → Admits type_rows name_rows f (model_in type_rows name_rows r) (start (model_in type_rows name_rows r))
+      ↔ Of (names_in (script_of s)) (declared (script_of s) r) f
   unfolding names_in
   places_say = admits_of type_rows name_rows (shaped_lower s e) (shaped_labelled s e) (shaped_once s e)
 

@@ -212,7 +212,8 @@ pub data Costing (price purse : ℕ) : Answer → ℕ → Type 0 where
 
 -- so on every sheet with the script's tables that passes 2 to 4, with every check fuel, whatever the forest, if the working rows suffice
 pub record CheckCosts (S : Script) (price : ℕ) : Type 0 where
-  pub ends : {s work : List ℕ} {a : Answer} {units : ℕ} → script_of s ≡ S → Loads s done → (sheet_of s).check_fuel ≤ rows_lent work → Checked s work a units → Costing price (sheet_of s).check_fuel a units
+  pub ends : {s work : List ℕ} {a : Answer} {units : ℕ} → script_of s ≡ S → Loads s done → (sheet_of s).check_fuel ≤ rows_lent work → Checked s work a units
+      → Costing price (sheet_of s).check_fuel a units
 
 -- a script that the rules accept has one such number
 pub check_fuel_lem : (S : Script) → Accepts S → (price : ℕ) × CheckCosts S price
@@ -229,7 +230,8 @@ check_fuel_lem S accepts = let c = accepts_enough S accepts in (c.0, record { en
     verdict purse price units left τ (stops (walk.Stop.stuck at)) h z d = absurd h
 
     costing : (price : ℕ) → ((n m : ℕ) (v : Verdict Ty) → Settles (Judged (names_in S)) (check_walk S) n v m → Ended (Spent (Unit {0}) (Unit {0})) accepts.main.output price n v m)
-        → {s work : List ℕ} {a : Answer} {units : ℕ} → script_of s ≡ S → Loads s done → (sheet_of s).check_fuel ≤ rows_lent work → Checked s work a units → Costing price (sheet_of s).check_fuel a units
+        → {s work : List ℕ} {a : Answer} {units : ℕ} → script_of s ≡ S → Loads s done → (sheet_of s).check_fuel ≤ rows_lent work → Checked s work a units
+        → Costing price (sheet_of s).check_fuel a units
     costing price h {s} e l n (Checked.unsound k) = never (cc (one_load s k l))
     costing price h e l n (Checked.no_scratch k m) = absurd (omega arith)
     costing price h {s} {units = u} e l n (walked {left = left} {v = v} k m t q d) =

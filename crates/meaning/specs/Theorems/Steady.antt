@@ -132,7 +132,8 @@ module _ (s s' : List ℕ) (script : script_of s' ≡ script_of s) where
   walked_more {units = u} t e d o more loads lent = walked {units = u} loads lent (settles_more t o more) e (omega (arith, within_purse (Judged (names_in (script_of s))) t))
 
   -- a check's answer, with its values and units, on the same terms
-  pub steady_check : {work work' : List ℕ} {a : Answer} {u : ℕ} → Checked s work a u → Says a → (sheet_of s).check_fuel ≤ (sheet_of s').check_fuel → Loads s' done → (sheet_of s').check_fuel ≤ rows_lent work'
+  pub steady_check : {work work' : List ℕ} {a : Answer} {u : ℕ} → Checked s work a u → Says a → (sheet_of s).check_fuel ≤ (sheet_of s').check_fuel → Loads s' done
+      → (sheet_of s').check_fuel ≤ rows_lent work'
       → Checked s' work' a u
   steady_check (Checked.unsound l) o more loads lent = absurd (no_load l o)
   steady_check (Checked.no_scratch l n) o more loads lent = absurd o

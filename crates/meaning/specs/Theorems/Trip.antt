@@ -1,7 +1,8 @@
 -- Bundles are written and read by one rule: what is written reads back, and what reads was written, byte for byte.
 -- Block by block, by induction on their number: 512 bytes, of which 2 are its number, 508 its payload, 2 its check. A sheet is only what its counts ask for, and Shape looks at no byte of the pool.
 use Rattle.std.specs.Prelude.{ℕ, zero, suc, ◌+◌, ◌*◌, ◌-◌, ◌%◌, ◌≤◌, ◌<◌, ◌≡◌, refl, Bool, true, false, ◌&&◌, List, [], ◌∷◌, ◌++◌, eqb, leb, get_or, length, take, drop}
-use Rattle.std.proofs.Common.{sym, ◌∙◌, ap, ap₂, append_assoc, arith, length-append, length-drop, take-append-drop, take_at, drop_at, take-add, take-take, drop-drop, drop-cons, get_or-take, get_or-drop, length-take-le, le-leb, eqb-true, eq-eqb}
+use Rattle.std.proofs.Common.{sym, ◌∙◌, ap, ap₂, append_assoc, arith, length-append, length-drop, take-append-drop, take_at, drop_at, take-add, take-take, drop-drop}
+use Rattle.std.proofs.Common.{drop-cons, get_or-take, get_or-drop, length-take-le, le-leb, eqb-true, eq-eqb}
 use Rattle.std.proofs.Math.ListN.{get_or-append}
 use Rattle.std.proofs.Math.Seq.{drop-nil}
 use Rattle.meaning.specs.Limits.{most_blocks}

@@ -71,7 +71,8 @@ type_within s (sound shape fertile untied) σ h w i j = decided (found_over s sh
 
 -- and in (), text or bool
 pub type_plain : (s : List ℕ) → Loads s done → (σ : Ty) → Over (Name (script_of s).names) σ → (τ : Ty) → Plain τ
-    → Within (names_in (script_of s)) σ τ ↔ NoneBad (type_side (names_in (script_of s))) (type_side (names_in (script_of s))) (type_start (names_in (script_of s)) σ) (type_start (names_in (script_of s)) τ)
+    → Within (names_in (script_of s)) σ τ
+    ↔ NoneBad (type_side (names_in (script_of s))) (type_side (names_in (script_of s))) (type_start (names_in (script_of s)) σ) (type_start (names_in (script_of s)) τ)
 type_plain s (sound shape fertile untied) σ h τ p = decided (found_over s shape fertile σ h) (sought_plain (names_in (script_of s)) τ p)
 
 -- ---- a small sheet that meets it all: name 1 is a[x*], A is x and B is x*. A lies in B, so no pair is bad; B does not lie in A: it may end at once

@@ -59,7 +59,8 @@ Childs s i = (q p o n : ℕ) × (main_of s ≡ Statement.insert q) × (query_in 
 
 -- they are given as Mismatch, as by the rule before
 abbrev pub ChildrenMismatch : Check → Type 0
-ChildrenMismatch f = (s work : List ℕ) (i : ℕ) → Loads s done → Afoot s work → 7 ≤ (sheet_of s).check_fuel → (script_of s).procedures ≡ 0 → Childs s i → (f s work).answer ≡ refused (mismatch (of_query i))
+ChildrenMismatch f = (s work : List ℕ) (i : ℕ) → Loads s done → Afoot s work → 7 ≤ (sheet_of s).check_fuel → (script_of s).procedures ≡ 0 → Childs s i
+    → (f s work).answer ≡ refused (mismatch (of_query i))
 
 -- ---- order
 

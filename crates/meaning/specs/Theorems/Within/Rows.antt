@@ -160,7 +160,8 @@ module _ (row : ℕ → Cells) (name_row : ℕ → ℕ) (lower : Lower row) (lab
 abbrev meet : Model → ℕ → ℕ → ℕ → Bool
 meet m n a b = first m a && first m b || some (λ c. follows m c a && follows m c b) n
 
-are_rivals : (row : ℕ → Cells) (name_row : ℕ → ℕ) (n : ℕ) (m : Model) (a b : ℕ) → (a ≡ b → ⊥) → head_at row name_row a ≡ head_at row name_row b → meet m n a b ≡ true → rivals row name_row n m a b ≡ true
+are_rivals : (row : ℕ → Cells) (name_row : ℕ → ℕ) (n : ℕ) (m : Model) (a b : ℕ) → (a ≡ b → ⊥) → head_at row name_row a ≡ head_at row name_row b → meet m n a b ≡ true
+    → rivals row name_row n m a b ≡ true
 are_rivals row name_row n m a b q e p = and_both (not (eqb a b) && same_head (head_at row name_row a) (head_at row name_row b)) (meet m n a b)
     (and_both (not (eqb a b)) (same_head (head_at row name_row a) (head_at row name_row b)) (rw (ne_eqb a b q)) ((same_head_says (head_at row name_row a) (head_at row name_row b)).1 e)) p
 
