@@ -19,7 +19,7 @@ use Rattle.sheet.specs.declared.Layout.{Layout}
 use Rattle.fit.specs.declared.Outcome.{Outcome}
 use Rattle.fit.specs.declared.Outcome.TheVariants as outcome
 
--- a tree's head by number, as places have theirs (`headNumber`): its label, 1024 a text, 1025 a bool; 1026 is no head
+-- a tree's head by number, as places have theirs (`head_number`): its label, 1024 a text, 1025 a bool; 1026 is no head
 abbrev pub tree_number : Cells → ℕ
 tree_number c = get_or (1026 ∷ 1024 ∷ 1025 ∷ 1025 ∷ c.p ∷ []) c.kind 1026
 

@@ -1,7 +1,7 @@
 -- The paper's judgments, as document 01 narrows them: run by figures 3 and 12, typing by figures 4 and 13, with appendix A's judgments for
 -- pick and for.
 -- Figure 13 has children of a labelled variable only; here those of a text or bool are () too, as a run gives them.
--- No units, no depth, no order. A premise `statementAt S i ≡ ..` says which rule a row is for. Subsumption stands only where document 01
+-- No units, no depth, no order. A premise `statement_at S i ≡ ..` says which rule a row is for. Subsumption stands only where document 01
 -- asks for inclusion, and arities are replaced by "an atom as written".
 -- What a rule looks at is said by relations of its own, not by functions of run and check; Laws/Figures shows that they agree.
 use Rattle.std.specs.Prelude.{ℕ, ◌≤◌, ◌≡◌, Bool, true, false, List, [], ◌∷◌, ◌++◌, get_or}

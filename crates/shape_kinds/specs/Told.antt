@@ -1,4 +1,4 @@
--- The code's enums and the meaning's: `useOf` and `usesIn` are the uses that they stand for, `Says` what is known of a row's kind.
+-- The code's enums and the meaning's: `use_of` and `uses_in` are the uses that they stand for, `Says` what is known of a row's kind.
 use Rattle.std.specs.Prelude.{◌≡◌, Bool, true, false, ◌&&◌, ℕ}
 use Rattle.meaning.specs.Tests.{in_table}
 use Rattle.meaning.specs.Sheet.{Cells, Sheet}

@@ -1,4 +1,4 @@
--- The small structs of this crate and the meaning's rows: `cells_of` and `procedureOf` are the rows that they stand for, `Laid` says that a layout is the sheet's.
+-- The small structs of this crate and the meaning's rows: `cells_of` and `procedure_of` are the rows that they stand for, `Laid` says that a layout is the sheet's.
 use Rattle.std.specs.Prelude.{◌≡◌, refl, List, Bool, true, false, ◌&&◌, ℕ, ◌+◌, ◌*◌, ◌<◌, ◌≤◌, ◌-◌, leb, length}
 use Rattle.std.proofs.Common.{arith, le-leb}
 use Rattle.std.proofs.lemmas.Bool.{lt-leb}

@@ -1,4 +1,4 @@
--- The loop of for and iter as the code does it: each turn's result becomes a link in front of the links before, and what they hold is gathered from the back. It is meaning's `each` (`loop-is`).
+-- The loop of for and iter as the code does it: each turn's result becomes a link in front of the links before, and what they hold is gathered from the back. It is meaning's `each` (`loop_is`).
 use Rattle.std.specs.Prelude.{ℕ, ◌+◌, ◌≤◌, ◌≡◌, refl, List}
 use Rattle.std.proofs.Common.{sym, ap, ◌∙◌, subst}
 use Rattle.meaning.specs.Forest.{Tree, Forest, nil, cons, only, ◌⊕◌, count, forest_at}

@@ -35,7 +35,7 @@ pub record SameTables (s s' : List ℕ) : Type 0 where
   pub header : (j : ℕ) → j < 10 → ¬ (j ≡ 5) → ¬ (j ≡ 6) → word_at s' j ≡ word_at s j
   pub tables : (j : ℕ) → 13 ≤ j → j < rows_at s → word_at s' j ≡ word_at s j
 
--- a name's word, as `scriptOf` reads it
+-- a name's word, as `script_of` reads it
 abbrev row1 : List ℕ → ℕ → ℕ → ℕ → ℕ
 row1 s at n r = cond (in_table n r) (word_at s (at + (r - 1))) 0
 

@@ -1,4 +1,4 @@
--- Every script passed before still passes. By the rule before, children of a text or bool variable were Mismatch (`Check.inside-before`); where a check by that rule is done,
+-- Every script passed before still passes. By the rule before, children of a text or bool variable were Mismatch (`Check.inside_before`); where a check by that rule is done,
 -- the check is done with the same type and the same units, for every sheet. By a relation of walks: one goes as another does until that one halts.
 use Prim.Native.Nat.{ℕ, zero, suc, ◌+◌, ◌≤◌}
 use Rattle.std.specs.Prelude.{◌≡◌, refl, get_or}

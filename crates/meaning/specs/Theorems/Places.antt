@@ -129,7 +129,7 @@ Atomic (TypeRow.name x) = Unit {0}
 
 -- ---- over a table
 
--- `namesIn`, over a table
+-- `names_in`, over a table
 abbrev pub names_over : (ℕ → Cells) → (ℕ → ℕ) → ℕ → Named
 names_over row name_row x = record { label = (row (name_row x)).p; content = ty_at (λ i. type_form (row i)) (row (name_row x)).q }
 

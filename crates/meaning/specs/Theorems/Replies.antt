@@ -111,7 +111,7 @@ module _ {s work result : List ℕ} where
           let k = settles_settle (run_walk (sheet_of s)) (sheet_of s).run_fuel left (gives f) ((walk_gives s f _ _).1 (r.rules, r.deep, sum)) in
           gave {units = units} r.loads r.lent k.0 (omega (arith, k.1, sum, r.charged)) r.room r.root_is r.rows_are
 
-  -- a run is short of fuel exactly if more falls due than the purse holds, however it would end; `rules-due` says what falls due by the rules
+  -- a run is short of fuel exactly if more falls due than the purse holds, however it would end; `rules_due` says what falls due by the rules
   pub run_short : {units root : ℕ} {after : List ℕ} → Ran s work result (refused fuel) units root after ↔ RunShort s work result units root after
   run_short {units} {root} {after} = ((λ r. to r refl), from)
     where

@@ -1,6 +1,6 @@
 -- A description split over two desks: iter of a statement without free variables, on two forests one after the other, and the results
 -- joined, is what iter does on the joined forest.
--- On walks, for an iter row anywhere (`split-inside`); on replies of run, for three sheets that differ in forest, root and fuels, and whose
+-- On walks, for an iter row anywhere (`split_inside`); on replies of run, for three sheets that differ in forest, root and fuels, and whose
 -- main row is an iter (`split`).
 -- The units of the whole are the two sums together less 1, for the iter row itself starts once. The whole is stuck exactly if the first
 -- half is, or the first finishes and the second is stuck.

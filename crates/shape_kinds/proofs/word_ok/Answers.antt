@@ -1,4 +1,4 @@
--- `shape_kinds::word_ok` meets its contract: each use is one clause of the meaning's `wordOk`.
+-- `shape_kinds::word_ok` meets its contract: each use is one clause of the meaning's `word_ok`.
 use Rattle.meaning.specs.Sheet.{sheet_of, script_of, grove_of}
 use Rattle.meaning.specs.Shape.{word_ok}
 use Rattle.shape_kinds.proofs.word_ok.Goals as goal
