@@ -93,24 +93,21 @@ fn refused(answer: Copied, work: &mut [u8]) -> Reply
 }
 
 // A bundle into the lent tables: 0, 1, 2 or 13.
-#[unsafe(no_mangle)]
-pub extern "C" fn chukelowa_read(bundle: &[u8], tables: &mut [u8]) -> Reply
+pub fn chukelowa_read(bundle: &[u8], tables: &mut [u8]) -> Reply
     ensures { Copies (reply.read bundle.now tables.old) result tables.new }
 {
     copied(bundle::read(bundle, tables))
 }
 
 // Tables into the lent blocks: 0, 2 or 13.
-#[unsafe(no_mangle)]
-pub extern "C" fn chukelowa_write(tables: &[u8], blocks: &mut [u8]) -> Reply
+pub fn chukelowa_write(tables: &[u8], blocks: &mut [u8]) -> Reply
     ensures { Copies (reply.write tables.now blocks.old) result blocks.new }
 {
     copied(bundle::write(tables, blocks))
 }
 
 // Does the bundle's script take A into B: 0 to 9 or 12.
-#[unsafe(no_mangle)]
-pub extern "C" fn chukelowa_check(bundle: &[u8], work: &mut [u8]) -> Reply
+pub fn chukelowa_check(bundle: &[u8], work: &mut [u8]) -> Reply
     ensures { Gives (Check bundle.now work.old) result [] work.new }
 {
     let mut tables = [0u8; 44704];
@@ -123,8 +120,7 @@ pub extern "C" fn chukelowa_check(bundle: &[u8], work: &mut [u8]) -> Reply
 }
 
 // Is the bundle's forest of the type at row `told`: 0 to 4 or 10.
-#[unsafe(no_mangle)]
-pub extern "C" fn chukelowa_fit(bundle: &[u8], told: usize) -> Reply
+pub fn chukelowa_fit(bundle: &[u8], told: usize) -> Reply
     ensures { Gives (Fit bundle.now told) result [] [] }
 {
     let mut tables = [0u8; 44704];
@@ -137,8 +133,7 @@ pub extern "C" fn chukelowa_fit(bundle: &[u8], told: usize) -> Reply
 }
 
 // The edited forest, in the result rows: 0 to 6 or 11 to 13.
-#[unsafe(no_mangle)]
-pub extern "C" fn chukelowa_run(bundle: &[u8], work: &mut [u8], res: &mut [u8]) -> Reply
+pub fn chukelowa_run(bundle: &[u8], work: &mut [u8], res: &mut [u8]) -> Reply
     ensures { Gives (Run bundle.now work.old res.old) result res.new
         work.new }
 {
@@ -152,8 +147,7 @@ pub extern "C" fn chukelowa_run(bundle: &[u8], work: &mut [u8], res: &mut [u8]) 
 }
 
 // The same of a script that the check passes, on a forest of A: 0 to 10, 12 or 13, with the units of both walks.
-#[unsafe(no_mangle)]
-pub extern "C" fn chukelowa_apply(bundle: &[u8], work: &mut [u8], res: &mut [u8]) -> Reply
+pub fn chukelowa_apply(bundle: &[u8], work: &mut [u8], res: &mut [u8]) -> Reply
     ensures { Gives (Apply bundle.now work.old res.old) result res.new
         work.new }
 {
