@@ -3,7 +3,6 @@
 mod common;
 
 use common::{folder, root};
-use std::os::unix::fs::symlink;
 use std::path::{Path, PathBuf};
 use std::process::Command;
 
@@ -26,6 +25,12 @@ fn commands(page: &str) -> Vec<(String, String)> {
     commands
 }
 
+/// A file or folder, copied: `rt ci` refuses links, also those of a test.
+fn copy(from: &Path, to: &Path) {
+    let copied = Command::new("cp").arg("-R").args([from, to]).status().expect("cp runs");
+    assert!(copied.success(), "{} is copied", from.display());
+}
+
 /// A folder in which the page's commands find what they name: the repository's folders, the archive and the command.
 fn place(name: &str) -> PathBuf {
     let place = folder(name);
@@ -38,7 +43,7 @@ fn place(name: &str) -> PathBuf {
         (archive, "target/c"),
         (program.into(), "chukelowa"),
     ] {
-        symlink(from, place.join(to)).expect("a link");
+        copy(&from, &place.join(to));
     }
     place
 }

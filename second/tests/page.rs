@@ -42,7 +42,12 @@ fn the_commands_print_what_is_shown() {
     let folder = PathBuf::from(env!("CARGO_TARGET_TMPDIR")).join("page");
     drop(std::fs::remove_dir_all(&folder));
     std::fs::create_dir_all(&folder).expect("a folder");
-    std::os::unix::fs::symlink(file("examples"), folder.join("examples")).expect("a link");
+    // A copy and no link: `rt ci` refuses links, also those of a test.
+    let copied = Command::new("cp")
+        .arg("-R")
+        .args([file("examples"), folder.join("examples")])
+        .status();
+    assert!(copied.expect("cp runs").success());
     let mut tried = 0;
     for (command, shown) in commands(&text("docs/NOTATION.md")) {
         // What makes cases and compares them is tried in tests/compare.rs.
