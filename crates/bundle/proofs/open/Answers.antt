@@ -1,5 +1,4 @@
 -- `bundle::open` meets its contract: each refusal is a test that fails, and past all of them the payload stands in front.
--- past the call of `need_in`, the payload stands in front of what was lent
 use mathlib.Core.Path.{sym, ◌∙◌}
 use native.Mathlib.Omega.{arith}
 use Rattle.std.proofs.Common.{ℕ, List, ◌≡◌, ◌≤◌, ◌*◌, ◌++◌, length, take, drop}
@@ -8,6 +7,7 @@ use Rattle.meaning.specs.Bundle.{block_count, payload}
 use Rattle.bundle.proofs.Reading.{uneven, no_block, too_many, wrong_block, payload_is, Unpacked, miscounted, padded, is_framed}
 use Rattle.bundle.proofs.open.Goals as goal
 
+-- once the blocks are unpacked, the payload stands in front of what was lent
 unpacked : (b d after : List ℕ) {n : ℕ} → after ≡ payload (block_count b) b ++ drop (508 * block_count b) d → length after ≡ length d → 508 * block_count b ≤ length d
     → n ≡ need (take (508 * block_count b) after) → Unpacked b after n
 unpacked b d after is e l asks = record { payload = payload_is _ _ d _ is e l; asks = asks; long = omega (arith, e) }

@@ -1,5 +1,4 @@
 -- `bundle::read` meets its contract: refused 1, then 2, then 13, else the sheet copied.
--- in the arm of a bundle that was opened
 use mathlib.Core.Path.{sym}
 use Rattle.std.proofs.Common.{ℕ, List, ◌++◌, drop, ap}
 use lib.Seq.{length-take-le}

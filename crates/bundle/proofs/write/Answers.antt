@@ -1,5 +1,4 @@
 -- `bundle::write` meets its contract: refused 2, then 13, else the blocks.
--- past the first refusal
 use mathlib.Core.Path.{sym, ◌∙◌}
 use native.Mathlib.Omega.{arith}
 use Rattle.meaning.specs.Laws.Shaped.{long}

@@ -1,13 +1,4 @@
--- A condition, asked about, then both queries.
--- The two queries of an if: a choice is written.
--- A query, then the body at each atom of its type.
--- One type, then another: a sequence is written.
--- A forest variable more: its type, then the query in the scope with a place more.
--- A type part by part: by what it consists of; parts are of lower rows, and an atom is a tree variable of the body.
--- A query, then its atoms with a label.
--- A query row: a level of depth, a unit, and then by its kind.
--- Two types, asked about in order.
--- A query, then its type under a label.
+-- What types queries, a cycle of calls, meets its contracts.
 use native.Mathlib.Omega.{arith}
 use mathlib.Core.Path.{◌∙◌, refl, sym}
 use Rattle.meaning.specs.Check.{query_type}
@@ -26,15 +17,16 @@ use Rattle.meaning.specs.Types.{ty_form}
 use Rattle.sheet.specs.Laid.{cells_of}
 use Rattle.check_query.proofs.+queries.Goals as goal
 
+-- `choose`: a condition, asked about, then both queries.
 pub choose-query-requires : goal.choose-query-requires
-choose-query-requires t c = (omega (arith), asks_part c.requires (fits_if c.args.s.now c.args.depth c.args.scope c.args.p c.args.q c.args.r c.requires.scope).0)
+choose-query-requires t c = (omega arith, asks_part c.requires (fits_if c.args.s.now c.args.depth c.args.scope c.args.p c.args.q c.args.r c.requires.scope).0)
 
 pub choose-plain-requires : goal.choose-plain-requires
 choose-plain-requires t c = record { loads = c.requires.loads; grows = ((room_after c.query.auto.work (finds_done c.in-Done.is c.query.ensures) c.requires.ready.room).grows, (finds_done c.in-Done.is c.query.ensures).inside, omega (arith, (finds_done c.in-Done.is c.query.ensures).inside, (room_after c.query.auto.work (finds_done c.in-Done.is c.query.ensures) c.requires.ready.room).small)); le_kind = (omega arith, omega arith) }
 
 pub choose-either-requires : goal.choose-either-requires
 unfolding query_scope
-choose-either-requires t c = (omega (arith), asks_after c.requires c.query.auto.work (finds_done c.in-Done.is c.query.ensures) (and_both (fits c.args.s.now c.args.depth c.args.scope c.args.q) (fits c.args.s.now c.args.depth c.args.scope c.args.r) (fits_if c.args.s.now c.args.depth c.args.scope c.args.p c.args.q c.args.r c.requires.scope).1 (fits_if c.args.s.now c.args.depth c.args.scope c.args.p c.args.q c.args.r c.requires.scope).2))
+choose-either-requires t c = (omega arith, asks_after c.requires c.query.auto.work (finds_done c.in-Done.is c.query.ensures) (and_both (fits c.args.s.now c.args.depth c.args.scope c.args.q) (fits c.args.s.now c.args.depth c.args.scope c.args.r) (fits_if c.args.s.now c.args.depth c.args.scope c.args.p c.args.q c.args.r c.requires.scope).1 (fits_if c.args.s.now c.args.depth c.args.scope c.args.p c.args.q c.args.r c.requires.scope).2))
 
 pub choose-shape_of-work-in-Not : goal.choose-shape_of-work-in-Not
 choose-shape_of-work-in-Not t c = c.query.auto.work
@@ -61,11 +53,12 @@ choose-shape_of-work-in-Holds t c = c.either.auto.work ∙ c.query.auto.work
 pub choose-returns-in-Holds : goal.choose-returns-in-Holds
 choose-returns-in-Holds t c = choose_finds c.args.s.now c.args.depth _ c.requires.ready c.args.at c.args.p c.args.q c.args.r (finds_done c.in-Done.is c.query.ensures) c.plain.ensures c.in-Holds.is c.either.ensures
 
+-- `either`: the two queries of an if: a choice is written.
 pub either-query-requires : goal.either-query-requires
-either-query-requires t c = (omega (arith), asks_part c.requires (fits_join c.args.s.now c.args.depth c.args.scope c.args.q c.args.r c.requires.scope).0)
+either-query-requires t c = (omega arith, asks_part c.requires (fits_join c.args.s.now c.args.depth c.args.scope c.args.q c.args.r c.requires.scope).0)
 
 pub either-query-requires-in-Done : goal.either-query-requires-in-Done
-either-query-requires-in-Done t c = (omega (arith), asks_after c.requires c.query.auto.work (finds_done c.in-Done.is c.query.ensures) (fits_join c.args.s.now c.args.depth c.args.scope c.args.q c.args.r c.requires.scope).1)
+either-query-requires-in-Done t c = (omega arith, asks_after c.requires c.query.auto.work (finds_done c.in-Done.is c.query.ensures) (fits_join c.args.s.now c.args.depth c.args.scope c.args.q c.args.r c.requires.scope).1)
 
 pub either-write-requires : goal.either-write-requires
 either-write-requires t c = asks_choice (whole_loads c.requires.loads) (room_after c.query-in-Done.auto.work (finds_done c.in-Done-query.is c.query-in-Done.ensures) (room_after c.query.auto.work (finds_done c.in-Done.is c.query.ensures) c.requires.ready.room)) _ _ (omega (arith, (finds_done c.in-Done.is c.query.ensures).inside, (finds_done c.in-Done-query.is c.query-in-Done.ensures).grown)) (finds_done c.in-Done-query.is c.query-in-Done.ensures).inside
@@ -88,8 +81,9 @@ either-shape_of-work-in-Done-query t c = c.write.auto.work ∙ c.query-in-Done.a
 pub either-returns-in-Done-query : goal.either-returns-in-Done-query
 either-returns-in-Done-query t c = either_finds c.args.s.now c.args.depth c.requires.ready c.args.q (finds_done c.in-Done.is c.query.ensures) c.args.r (finds_done c.in-Done-query.is c.query-in-Done.ensures) c.write.ensures
 
+-- `for_each`: a query, then the body at each atom of its type.
 pub for_each-query-requires : goal.for_each-query-requires
-for_each-query-requires t c = (omega (arith), asks_part c.requires (fits_for c.args.s.now c.args.depth c.args.scope c.args.p c.args.q c.requires.scope).0)
+for_each-query-requires t c = (omega arith, asks_part c.requires (fits_for c.args.s.now c.args.depth c.args.scope c.args.p c.args.q c.requires.scope).0)
 
 pub for_each-parts-requires : goal.for_each-parts-requires
 for_each-parts-requires t c = (omega (arith, (finds_done c.in-Done.is c.query.ensures).inside, (room_after c.query.auto.work (finds_done c.in-Done.is c.query.ensures) c.requires.ready.room).small), (asks_after c.requires c.query.auto.work (finds_done c.in-Done.is c.query.ensures) (fits_for c.args.s.now c.args.depth c.args.scope c.args.p c.args.q c.requires.scope).1, (finds_done c.in-Done.is c.query.ensures).inside))
@@ -107,11 +101,12 @@ for_each-shape_of-work-in-Done t c = c.parts.auto.work ∙ c.query.auto.work
 pub for_each-returns-in-Done : goal.for_each-returns-in-Done
 for_each-returns-in-Done t c = for_finds c.args.s.now c.args.depth c.requires.ready c.args.p (finds_done c.in-Done.is c.query.ensures) c.args.q c.parts.ensures
 
+-- `join`: one type, then another: a sequence is written.
 pub join-query-requires : goal.join-query-requires
-join-query-requires t c = (omega (arith), asks_part c.requires (fits_join c.args.s.now c.args.depth c.args.scope c.args.p c.args.q c.requires.scope).0)
+join-query-requires t c = (omega arith, asks_part c.requires (fits_join c.args.s.now c.args.depth c.args.scope c.args.p c.args.q c.requires.scope).0)
 
 pub join-query-requires-in-Done : goal.join-query-requires-in-Done
-join-query-requires-in-Done t c = (omega (arith), asks_after c.requires c.query.auto.work (finds_done c.in-Done.is c.query.ensures) (fits_join c.args.s.now c.args.depth c.args.scope c.args.p c.args.q c.requires.scope).1)
+join-query-requires-in-Done t c = (omega arith, asks_after c.requires c.query.auto.work (finds_done c.in-Done.is c.query.ensures) (fits_join c.args.s.now c.args.depth c.args.scope c.args.p c.args.q c.requires.scope).1)
 
 pub join-write-requires : goal.join-write-requires
 join-write-requires t c = asks_seq (whole_loads c.requires.loads) (room_after c.query-in-Done.auto.work (finds_done c.in-Done-query.is c.query-in-Done.ensures) (room_after c.query.auto.work (finds_done c.in-Done.is c.query.ensures) c.requires.ready.room)) _ _ (omega (arith, (finds_done c.in-Done.is c.query.ensures).inside, (finds_done c.in-Done-query.is c.query-in-Done.ensures).grown)) (finds_done c.in-Done-query.is c.query-in-Done.ensures).inside
@@ -135,14 +130,15 @@ join-shape_of-work-in-Done-query t c = c.write.auto.work ∙ c.query-in-Done.aut
 pub join-returns-in-Done-query : goal.join-returns-in-Done-query
 join-returns-in-Done-query t c = join_finds c.args.s.now c.args.depth c.requires.ready c.args.p (finds_done c.in-Done.is c.query.ensures) c.args.q (finds_done c.in-Done-query.is c.query-in-Done.ensures) c.write.ensures
 
+-- `let_in`: a forest variable more: its type, then the query in the scope with a place more.
 pub let_in-query-requires : goal.let_in-query-requires
-let_in-query-requires t c = (omega (arith), asks_part c.requires (fits_let c.args.s.now c.args.depth c.args.scope c.args.p c.args.q c.requires.scope).0)
+let_in-query-requires t c = (omega arith, asks_part c.requires (fits_let c.args.s.now c.args.depth c.args.scope c.args.p c.args.q c.requires.scope).0)
 
 pub let_in-with-requires : goal.let_in-with-requires
 let_in-with-requires t c = (a_place c.requires.ready.scoped (fits_let c.args.s.now c.args.depth c.args.scope c.args.p c.args.q c.requires.scope).1, c.requires.ready.scoped.sixteen, omega (arith, (finds_done c.in-Done.is c.query.ensures).inside, (finds_done c.in-Done.is c.query.ensures).paid, c.requires.ready.room.small))
 
 pub let_in-query-requires-in-Done : goal.let_in-query-requires-in-Done
-let_in-query-requires-in-Done t c = (omega (arith), asks_with (asks_after c.requires c.query.auto.work (finds_done c.in-Done.is c.query.ensures) c.requires.scope) c.with.ensures (a_place c.requires.ready.scoped (fits_let c.args.s.now c.args.depth c.args.scope c.args.p c.args.q c.requires.scope).1) (finds_done c.in-Done.is c.query.ensures).inside (fits_more c.args.s.now c.args.depth c.args.scope c.args.q c.with.ensures (fits_let c.args.s.now c.args.depth c.args.scope c.args.p c.args.q c.requires.scope).2))
+let_in-query-requires-in-Done t c = (omega arith, asks_with (asks_after c.requires c.query.auto.work (finds_done c.in-Done.is c.query.ensures) c.requires.scope) c.with.ensures (a_place c.requires.ready.scoped (fits_let c.args.s.now c.args.depth c.args.scope c.args.p c.args.q c.requires.scope).1) (finds_done c.in-Done.is c.query.ensures).inside (fits_more c.args.s.now c.args.depth c.args.scope c.args.q c.with.ensures (fits_let c.args.s.now c.args.depth c.args.scope c.args.p c.args.q c.requires.scope).2))
 
 pub let_in-shape_of-work-in-Not : goal.let_in-shape_of-work-in-Not
 let_in-shape_of-work-in-Not t c = c.query.auto.work
@@ -157,6 +153,7 @@ let_in-shape_of-work-in-Done t c = c.query-in-Done.auto.work ∙ c.query.auto.wo
 pub let_in-returns-in-Done : goal.let_in-returns-in-Done
 let_in-returns-in-Done t c = let_finds c.args.s.now c.args.depth c.requires.ready c.args.p (finds_done c.in-Done.is c.query.ensures) c.args.q c.with.ensures c.query-in-Done.ensures
 
+-- `parts`: a type part by part: by what it consists of; parts are of lower rows, and an atom is a tree variable of the body.
 pub parts-part_of-requires : goal.parts-part_of-requires
 parts-part_of-requires t c = ((whole_loads c.requires.0.loads), omega (arith, c.requires.1, c.requires.0.ready.room.small))
 
@@ -164,7 +161,7 @@ pub parts-with-requires : goal.parts-with-requires
 parts-with-requires t c = (a_place c.requires.0.ready.scoped (fits_turn c.args.s.now c.args.depth c.args.scope c.args.body c.requires.0.scope).0, c.requires.0.ready.scoped.sixteen, omega (arith, c.requires.1, c.requires.0.ready.room.small))
 
 pub parts-query-a-requires : goal.parts-query-a-requires
-parts-query-a-requires t c = (omega (arith), asks_with (asks_less c.requires.0 _ (paid_left c.in-Left.is c.take.ensures) c.requires.0.scope) c.with.ensures (a_place c.requires.0.ready.scoped (fits_turn c.args.s.now c.args.depth c.args.scope c.args.body c.requires.0.scope).0) c.requires.1 (fits_more c.args.s.now c.args.depth c.args.scope c.args.body c.with.ensures (fits_turn c.args.s.now c.args.depth c.args.scope c.args.body c.requires.0.scope).1))
+parts-query-a-requires t c = (omega arith, asks_with (asks_less c.requires.0 _ (paid_left c.in-Left.is c.take.ensures) c.requires.0.scope) c.with.ensures (a_place c.requires.0.ready.scoped (fits_turn c.args.s.now c.args.depth c.args.scope c.args.body c.requires.0.scope).0) c.requires.1 (fits_more c.args.s.now c.args.depth c.args.scope c.args.body c.with.ensures (fits_turn c.args.s.now c.args.depth c.args.scope c.args.body c.requires.0.scope).1))
 
 pub parts-parts-a-requires : goal.parts-parts-a-requires
 parts-parts-a-requires t c = (omega (arith, (consists_star c.in-Star.is (c.part_of.ensures c.args.used c.requires.0.ready.room.grows c.requires.1)).part), ((asks_less c.requires.0 _ (paid_left c.in-Left.is c.take.ensures) c.requires.0.scope), omega (arith, c.requires.1, (consists_star c.in-Star.is (c.part_of.ensures c.args.used c.requires.0.ready.room.grows c.requires.1)).part)))
@@ -223,8 +220,9 @@ parts-shape_of-work-in-Done-a-2 t c = c.write-in-Done-a-2.auto.work ∙ c.parts-
 pub parts-returns-in-Done-a-2 : goal.parts-returns-in-Done-a-2
 parts-returns-in-Done-a-2 t c = pair_finds c.args.of (body_asked c.args.s.now c.args.work.now c.args.used c.args.scope c.args.depth c.args.body) _ (paid_left c.in-Left.is c.take.ensures) (consists_pair c.in-Pair.is (c.part_of.ensures c.args.used c.requires.0.ready.room.grows c.requires.1)) c.requires.0.ready.room.grows (finds_done c.in-Done-a.is c.parts-a-in-Pair.ensures) _ (body_after c.requires.0.ready (finds_done c.in-Done-a.is c.parts-a-in-Pair.ensures) c.args.depth c.args.body) c.requires.1 (finds_done c.in-Done-a-2.is c.parts-a-in-Done-a.ensures) c.write-in-Done-a-2.ensures
 
+-- `pick`: a query, then its atoms with a label.
 pub pick-query-requires : goal.pick-query-requires
-pick-query-requires t c = (omega (arith), asks_part c.requires (fits_pick c.args.s.now c.args.depth c.args.scope c.args.p c.args.label c.requires.scope))
+pick-query-requires t c = (omega arith, asks_part c.requires (fits_pick c.args.s.now c.args.depth c.args.scope c.args.p c.args.label c.requires.scope))
 
 pub pick-picked-requires : goal.pick-picked-requires
 pick-picked-requires t c = record { shaped = loads_shapely c.requires.loads; room = room_after c.query.auto.work (finds_done c.in-Done.is c.query.ensures) c.requires.ready.room; inside = (finds_done c.in-Done.is c.query.ensures).inside }
@@ -242,6 +240,7 @@ pick-shape_of-work-in-Done t c = c.picked.auto.work ∙ c.query.auto.work
 pub pick-returns-in-Done : goal.pick-returns-in-Done
 pick-returns-in-Done t c = pick_finds c.args.s.now c.args.depth c.requires.ready c.args.p (finds_done c.in-Done.is c.query.ensures) c.args.label c.picked.ensures
 
+-- `query`: a query row: a level of depth, a unit, and then by its kind.
 pub query-returns-then-depth-eq0 : goal.query-returns-then-depth-eq0
 query-returns-then-depth-eq0 t c = finds_halt (ask_deep c.args.s.now c.args.work.now c.args.used c.args.scope c.args.depth c.args.at c.args.purse c.if-depth-eq0.true)
 
@@ -387,11 +386,12 @@ pub query-returns-in-0-2 : goal.query-returns-in-0-2
 unfolding query_type
 query-returns-in-0-2 t c = ask_as c.args.s.now c.args.work.now c.args.used c.args.scope c.args.depth c.args.at c.if-depth-eq0.false (form_none c.args.s.now c.args.at (cells_of c.query_at-c.result) c.query_at-c.ensures.is (fourteen_up c.in-0.in-0-own.rest.1 c.in-0.in-0-own.rest.0.0.0.0.0.0.0.0.0.0.0.0.0.1 c.in-0.in-0-own.rest.0.0.0.0.0.0.0.0.0.0.0.0.1 c.in-0.in-0-own.rest.0.0.0.0.0.0.0.0.0.0.0.1 c.in-0.in-0-own.rest.0.0.0.0.0.0.0.0.0.0.1 c.in-0.in-0-own.rest.0.0.0.0.0.0.0.0.0.1 c.in-0.in-0-own.rest.0.0.0.0.0.0.0.0.1 c.in-0.in-0-own.rest.0.0.0.0.0.0.0.1 c.in-0.in-0-own.rest.0.0.0.0.0.0.1 c.in-0.in-0-own.rest.0.0.0.0.0.1 c.in-0.in-0-own.rest.0.0.0.0.1 c.in-0.in-0-own.rest.0.0.0.1 c.in-0.in-0-own.rest.0.0.1 c.in-0.in-0-own.rest.0.1)) _ (paid_left c.in-Left.is c.take.ensures) (finds_halt (halt_mismatch c.args.s.now c.args.at 1 _))
 
+-- `same`: two types, asked about in order.
 pub same-query-requires : goal.same-query-requires
-same-query-requires t c = (omega (arith), asks_part c.requires (fits_same c.args.s.now c.args.depth c.args.scope c.args.p c.args.q c.requires.scope).0)
+same-query-requires t c = (omega arith, asks_part c.requires (fits_same c.args.s.now c.args.depth c.args.scope c.args.p c.args.q c.requires.scope).0)
 
 pub same-query-requires-in-Done : goal.same-query-requires-in-Done
-same-query-requires-in-Done t c = (omega (arith), asks_after c.requires c.query.auto.work (finds_done c.in-Done.is c.query.ensures) (fits_same c.args.s.now c.args.depth c.args.scope c.args.p c.args.q c.requires.scope).1)
+same-query-requires-in-Done t c = (omega arith, asks_after c.requires c.query.auto.work (finds_done c.in-Done.is c.query.ensures) (fits_same c.args.s.now c.args.depth c.args.scope c.args.p c.args.q c.requires.scope).1)
 
 pub same-two_texts-requires : goal.same-two_texts-requires
 same-two_texts-requires t c = (c.requires.loads, (room_after c.query-in-Done.auto.work (finds_done c.in-Done-query.is c.query-in-Done.ensures) (room_after c.query.auto.work (finds_done c.in-Done.is c.query.ensures) c.requires.ready.room)), omega (arith, (finds_done c.in-Done.is c.query.ensures).inside, (finds_done c.in-Done-query.is c.query-in-Done.ensures).grown), (finds_done c.in-Done-query.is c.query-in-Done.ensures).inside)
@@ -415,8 +415,9 @@ same-shape_of-work-in-Done-query t c = c.two_texts.auto.work ∙ c.query-in-Done
 pub same-returns-in-Done-query : goal.same-returns-in-Done-query
 same-returns-in-Done-query t c = same_finds c.args.s.now c.args.depth c.requires.ready c.args.p (finds_done c.in-Done.is c.query.ensures) c.args.q (finds_done c.in-Done-query.is c.query-in-Done.ensures) c.args.at c.two_texts.ensures
 
+-- `tree`: a query, then its type under a label.
 pub tree-query-requires : goal.tree-query-requires
-tree-query-requires t c = (omega (arith), asks_part c.requires.0 (fits_tree c.args.s.now c.args.depth c.args.scope c.args.label c.args.q c.requires.0.scope))
+tree-query-requires t c = (omega arith, asks_part c.requires.0 (fits_tree c.args.s.now c.args.depth c.args.scope c.args.label c.args.q c.requires.0.scope))
 
 pub tree-write-requires : goal.tree-write-requires
 tree-write-requires t c = asks_label (whole_loads c.requires.0.loads) (room_after c.query.auto.work (finds_done c.in-Done.is c.query.ensures) c.requires.0.ready.room) _ _ c.requires.1 (finds_done c.in-Done.is c.query.ensures).inside

@@ -1,14 +1,4 @@
--- The content of a labelled atom, edited, under its label.
--- A condition, asked about, then both statements.
--- The two statements of an if: a choice is written.
--- What a statement gives on (), before the focus.
--- A forest variable more: its type, then the statement in the scope with a place more.
--- One statement, then another on what it gave.
--- A type part by part: by what it consists of; parts are of lower rows, and at an atom stands the statement.
--- What a statement gives on (), behind the focus.
--- The focus as a forest variable.
--- A statement row: a level of depth, a unit, and then by its kind.
--- A test: Mismatch, the statement, or the type as it is.
+-- What types statements, a cycle of calls, meets its contracts.
 use native.Mathlib.Omega.{arith}
 use mathlib.Core.Path.{refl, ◌∙◌}
 use Rattle.meaning.specs.Check.{children_type, statement_type}
@@ -29,11 +19,12 @@ use Rattle.run_statement.proofs.Laws.{fifteen_up}
 use Rattle.check_statement.specs.Calls.{form_called}
 use Rattle.check_statement.proofs.+statements.Goals as goal
 
+-- `children`: the content of a labelled atom, edited, under its label.
 pub children-atom_of-requires : goal.children-atom_of-requires
 children-atom_of-requires t c = (loads_shapely c.requires.checks.loads, omega (arith, c.requires.checks.ready.focus, c.requires.checks.ready.room.small))
 
 pub children-statement-requires : goal.children-statement-requires
-children-statement-requires t c = (omega (arith), (checks_part c.requires.checks _ (acts_label c.in-Label.is (c.atom_of.ensures c.args.used c.requires.checks.ready.room.grows c.requires.checks.ready.focus)).inside (fits_children c.args.s.now c.args.depth c.args.scope c.args.p c.requires.checks.scope), c.requires.lent))
+children-statement-requires t c = (omega arith, (checks_part c.requires.checks _ (acts_label c.in-Label.is (c.atom_of.ensures c.args.used c.requires.checks.ready.room.grows c.requires.checks.ready.focus)).inside (fits_children c.args.s.now c.args.depth c.args.scope c.args.p c.requires.checks.scope), c.requires.lent))
 
 pub children-write-requires : goal.children-write-requires
 children-write-requires t c = asks_label (whole_loads c.requires.checks.loads) (room_after c.statement.auto.work (finds_done c.in-Done.is c.statement.ensures) c.requires.checks.ready.room) _ _ (acts_label c.in-Label.is (c.atom_of.ensures c.args.used c.requires.checks.ready.room.grows c.requires.checks.ready.focus)).label (finds_done c.in-Done.is c.statement.ensures).inside
@@ -62,6 +53,7 @@ pub children-returns-in-Bool : goal.children-returns-in-Bool
 unfolding children_type
 children-returns-in-Bool t c = children_not c.args.s.now c.args.depth c.requires.checks.ready c.args.at c.args.p (acts_bool c.in-Bool.is (c.atom_of.ensures c.args.used c.requires.checks.ready.room.grows c.requires.checks.ready.focus)) _ refl
 
+-- `choose`: a condition, asked about, then both statements.
 pub choose-query-requires : goal.choose-query-requires
 choose-query-requires t c = checks_query c.requires.checks (fits_if c.args.s.now c.args.depth c.args.scope c.args.p c.args.q c.args.r c.requires.checks.scope).0
 
@@ -70,7 +62,7 @@ choose-plain-requires t c = record { loads = c.requires.checks.loads; grows = ((
 
 pub choose-either-requires : goal.choose-either-requires
 unfolding statement_scope
-choose-either-requires t c = (omega (arith), (checks_after c.requires.checks c.args.focus c.query.auto.work (finds_done c.in-Done.is c.query.ensures) (omega (arith, c.requires.checks.ready.focus, (finds_done c.in-Done.is c.query.ensures).grown)) (and_both (fits c.args.s.now c.args.depth c.args.scope c.args.q) (fits c.args.s.now c.args.depth c.args.scope c.args.r) (fits_if c.args.s.now c.args.depth c.args.scope c.args.p c.args.q c.args.r c.requires.checks.scope).1 (fits_if c.args.s.now c.args.depth c.args.scope c.args.p c.args.q c.args.r c.requires.checks.scope).2), c.requires.lent))
+choose-either-requires t c = (omega arith, (checks_after c.requires.checks c.args.focus c.query.auto.work (finds_done c.in-Done.is c.query.ensures) (omega (arith, c.requires.checks.ready.focus, (finds_done c.in-Done.is c.query.ensures).grown)) (and_both (fits c.args.s.now c.args.depth c.args.scope c.args.q) (fits c.args.s.now c.args.depth c.args.scope c.args.r) (fits_if c.args.s.now c.args.depth c.args.scope c.args.p c.args.q c.args.r c.requires.checks.scope).1 (fits_if c.args.s.now c.args.depth c.args.scope c.args.p c.args.q c.args.r c.requires.checks.scope).2), c.requires.lent))
 
 pub choose-shape_of-work-in-Not : goal.choose-shape_of-work-in-Not
 choose-shape_of-work-in-Not t c = c.query.auto.work
@@ -97,11 +89,12 @@ choose-shape_of-work-in-Holds t c = c.either.auto.work ∙ c.query.auto.work
 pub choose-returns-in-Holds : goal.choose-returns-in-Holds
 choose-returns-in-Holds t c = choose_finds c.args.s.now c.args.depth c.requires.checks.ready _ c.args.at c.args.p c.args.q c.args.r (finds_done c.in-Done.is c.query.ensures) c.plain.ensures c.in-Holds.is c.either.ensures
 
+-- `either`: the two statements of an if: a choice is written.
 pub either-statement-requires : goal.either-statement-requires
-either-statement-requires t c = (omega (arith), (checks_part c.requires.checks c.args.focus c.requires.checks.ready.focus (fits_then c.args.s.now c.args.depth c.args.scope c.args.q c.args.r c.requires.checks.scope).0, c.requires.lent))
+either-statement-requires t c = (omega arith, (checks_part c.requires.checks c.args.focus c.requires.checks.ready.focus (fits_then c.args.s.now c.args.depth c.args.scope c.args.q c.args.r c.requires.checks.scope).0, c.requires.lent))
 
 pub either-statement-requires-in-Done : goal.either-statement-requires-in-Done
-either-statement-requires-in-Done t c = (omega (arith), (checks_after c.requires.checks c.args.focus c.statement.auto.work (finds_done c.in-Done.is c.statement.ensures) (omega (arith, c.requires.checks.ready.focus, (finds_done c.in-Done.is c.statement.ensures).grown)) (fits_then c.args.s.now c.args.depth c.args.scope c.args.q c.args.r c.requires.checks.scope).1, c.requires.lent))
+either-statement-requires-in-Done t c = (omega arith, (checks_after c.requires.checks c.args.focus c.statement.auto.work (finds_done c.in-Done.is c.statement.ensures) (omega (arith, c.requires.checks.ready.focus, (finds_done c.in-Done.is c.statement.ensures).grown)) (fits_then c.args.s.now c.args.depth c.args.scope c.args.q c.args.r c.requires.checks.scope).1, c.requires.lent))
 
 pub either-write-requires : goal.either-write-requires
 either-write-requires t c = asks_choice (whole_loads c.requires.checks.loads) (room_after c.statement-in-Done.auto.work (finds_done c.in-Done-statement.is c.statement-in-Done.ensures) (room_after c.statement.auto.work (finds_done c.in-Done.is c.statement.ensures) c.requires.checks.ready.room)) _ _ (omega (arith, (finds_done c.in-Done.is c.statement.ensures).inside, (finds_done c.in-Done-statement.is c.statement-in-Done.ensures).grown)) (finds_done c.in-Done-statement.is c.statement-in-Done.ensures).inside
@@ -124,8 +117,9 @@ either-shape_of-work-in-Done-statement t c = c.write.auto.work ∙ c.statement-i
 pub either-returns-in-Done-statement : goal.either-returns-in-Done-statement
 either-returns-in-Done-statement t c = either_finds c.args.s.now c.args.depth c.requires.checks.ready c.args.q (finds_done c.in-Done.is c.statement.ensures) c.args.r (finds_done c.in-Done-statement.is c.statement-in-Done.ensures) c.write.ensures
 
+-- `left`: what a statement gives on (), before the focus.
 pub left-statement-requires : goal.left-statement-requires
-left-statement-requires t c = (omega (arith), (checks_part c.requires.checks 0 (omega arith) (fits_left c.args.s.now c.args.depth c.args.scope c.args.p c.requires.checks.scope), c.requires.lent))
+left-statement-requires t c = (omega arith, (checks_part c.requires.checks 0 (omega arith) (fits_left c.args.s.now c.args.depth c.args.scope c.args.p c.requires.checks.scope), c.requires.lent))
 
 pub left-write-requires : goal.left-write-requires
 left-write-requires t c = asks_seq (whole_loads c.requires.checks.loads) (room_after c.statement.auto.work (finds_done c.in-Done.is c.statement.ensures) c.requires.checks.ready.room) _ _ (finds_done c.in-Done.is c.statement.ensures).inside (omega (arith, c.requires.checks.ready.focus, (finds_done c.in-Done.is c.statement.ensures).grown))
@@ -142,6 +136,7 @@ left-shape_of-work-in-Done t c = c.write.auto.work ∙ c.statement.auto.work
 pub left-returns-in-Done : goal.left-returns-in-Done
 left-returns-in-Done t c = left_finds c.args.s.now c.args.depth c.requires.checks.ready c.args.p (finds_done c.in-Done.is c.statement.ensures) c.write.ensures
 
+-- `let_in`: a forest variable more: its type, then the statement in the scope with a place more.
 pub let_in-query-requires : goal.let_in-query-requires
 let_in-query-requires t c = checks_query c.requires.checks (fits_let c.args.s.now c.args.depth c.args.scope c.args.p c.args.q c.requires.checks.scope).0
 
@@ -149,7 +144,7 @@ pub let_in-with-requires : goal.let_in-with-requires
 let_in-with-requires t c = (a_place c.requires.checks.ready.scoped (fits_let c.args.s.now c.args.depth c.args.scope c.args.p c.args.q c.requires.checks.scope).1, c.requires.checks.ready.scoped.sixteen, omega (arith, (finds_done c.in-Done.is c.query.ensures).inside, (finds_done c.in-Done.is c.query.ensures).paid, c.requires.checks.ready.room.small))
 
 pub let_in-statement-requires : goal.let_in-statement-requires
-let_in-statement-requires t c = (omega (arith), (checks_with (checks_after c.requires.checks c.args.focus c.query.auto.work (finds_done c.in-Done.is c.query.ensures) (omega (arith, c.requires.checks.ready.focus, (finds_done c.in-Done.is c.query.ensures).grown)) c.requires.checks.scope) c.with.ensures (a_place c.requires.checks.ready.scoped (fits_let c.args.s.now c.args.depth c.args.scope c.args.p c.args.q c.requires.checks.scope).1) (finds_done c.in-Done.is c.query.ensures).inside (fits_more c.args.s.now c.args.depth c.args.scope c.args.q c.with.ensures (fits_let c.args.s.now c.args.depth c.args.scope c.args.p c.args.q c.requires.checks.scope).2), c.requires.lent))
+let_in-statement-requires t c = (omega arith, (checks_with (checks_after c.requires.checks c.args.focus c.query.auto.work (finds_done c.in-Done.is c.query.ensures) (omega (arith, c.requires.checks.ready.focus, (finds_done c.in-Done.is c.query.ensures).grown)) c.requires.checks.scope) c.with.ensures (a_place c.requires.checks.ready.scoped (fits_let c.args.s.now c.args.depth c.args.scope c.args.p c.args.q c.requires.checks.scope).1) (finds_done c.in-Done.is c.query.ensures).inside (fits_more c.args.s.now c.args.depth c.args.scope c.args.q c.with.ensures (fits_let c.args.s.now c.args.depth c.args.scope c.args.p c.args.q c.requires.checks.scope).2), c.requires.lent))
 
 pub let_in-shape_of-work-in-Not : goal.let_in-shape_of-work-in-Not
 let_in-shape_of-work-in-Not t c = c.query.auto.work
@@ -164,11 +159,12 @@ let_in-shape_of-work-in-Done t c = c.statement.auto.work ∙ c.query.auto.work
 pub let_in-returns-in-Done : goal.let_in-returns-in-Done
 let_in-returns-in-Done t c = let_finds c.args.s.now c.args.depth c.requires.checks.ready c.args.p (finds_done c.in-Done.is c.query.ensures) c.args.q c.with.ensures c.statement.ensures
 
+-- `pair`: one statement, then another on what it gave.
 pub pair-statement-requires : goal.pair-statement-requires
-pair-statement-requires t c = (omega (arith), (checks_part c.requires.checks c.args.focus c.requires.checks.ready.focus (fits_then c.args.s.now c.args.depth c.args.scope c.args.p c.args.q c.requires.checks.scope).0, c.requires.lent))
+pair-statement-requires t c = (omega arith, (checks_part c.requires.checks c.args.focus c.requires.checks.ready.focus (fits_then c.args.s.now c.args.depth c.args.scope c.args.p c.args.q c.requires.checks.scope).0, c.requires.lent))
 
 pub pair-statement-requires-in-Done : goal.pair-statement-requires-in-Done
-pair-statement-requires-in-Done t c = (omega (arith), (checks_after c.requires.checks _ c.statement.auto.work (finds_done c.in-Done.is c.statement.ensures) (finds_done c.in-Done.is c.statement.ensures).inside (fits_then c.args.s.now c.args.depth c.args.scope c.args.p c.args.q c.requires.checks.scope).1, c.requires.lent))
+pair-statement-requires-in-Done t c = (omega arith, (checks_after c.requires.checks _ c.statement.auto.work (finds_done c.in-Done.is c.statement.ensures) (finds_done c.in-Done.is c.statement.ensures).inside (fits_then c.args.s.now c.args.depth c.args.scope c.args.p c.args.q c.requires.checks.scope).1, c.requires.lent))
 
 pub pair-shape_of-work-in-Not : goal.pair-shape_of-work-in-Not
 pair-shape_of-work-in-Not t c = c.statement.auto.work
@@ -183,11 +179,12 @@ pair-shape_of-work-in-Done t c = c.statement-in-Done.auto.work ∙ c.statement.a
 pub pair-returns-in-Done : goal.pair-returns-in-Done
 pair-returns-in-Done t c = then_finds c.args.s.now c.args.depth c.requires.checks.ready c.args.p (finds_done c.in-Done.is c.statement.ensures) c.args.q c.statement-in-Done.ensures
 
+-- `parts`: a type part by part: by what it consists of; parts are of lower rows, and at an atom stands the statement.
 pub parts-part_of-requires : goal.parts-part_of-requires
 parts-part_of-requires t c = ((whole_loads c.requires.checks.loads), omega (arith, c.requires.checks.ready.focus, c.requires.checks.ready.room.small))
 
 pub parts-statement-a-requires : goal.parts-statement-a-requires
-parts-statement-a-requires t c = (omega (arith), ((checks_less c.requires.checks _ (paid_left c.in-Left.is c.take.ensures) c.requires.checks.scope), c.requires.lent))
+parts-statement-a-requires t c = (omega arith, ((checks_less c.requires.checks _ (paid_left c.in-Left.is c.take.ensures) c.requires.checks.scope), c.requires.lent))
 
 pub parts-parts-a-requires : goal.parts-parts-a-requires
 parts-parts-a-requires t c = (omega (arith, (consists_star c.in-Star.is (c.part_of.ensures c.args.used c.requires.checks.ready.room.grows c.requires.checks.ready.focus)).part), (checks_part (checks_less c.requires.checks _ (paid_left c.in-Left.is c.take.ensures) c.requires.checks.scope) _ (omega (arith, c.requires.checks.ready.focus, (consists_star c.in-Star.is (c.part_of.ensures c.args.used c.requires.checks.ready.room.grows c.requires.checks.ready.focus)).part)) c.requires.checks.scope, c.requires.lent))
@@ -246,8 +243,9 @@ parts-shape_of-work-in-Done-a-2 t c = c.write-in-Done-a-2.auto.work ∙ c.parts-
 pub parts-returns-in-Done-a-2 : goal.parts-returns-in-Done-a-2
 parts-returns-in-Done-a-2 t c = pair_finds c.args.of (body_goes c.args.s.now c.args.work.now c.args.used c.args.scope c.args.depth c.args.body) _ (paid_left c.in-Left.is c.take.ensures) (consists_pair c.in-Pair.is (c.part_of.ensures c.args.used c.requires.checks.ready.room.grows c.requires.checks.ready.focus)) c.requires.checks.ready.room.grows (finds_done c.in-Done-a.is c.parts-a-in-Pair.ensures) _ (body_kept c.requires.checks.ready (finds_done c.in-Done-a.is c.parts-a-in-Pair.ensures) c.args.depth c.args.body) c.requires.checks.ready.focus (finds_done c.in-Done-a-2.is c.parts-a-in-Done-a.ensures) c.write-in-Done-a-2.ensures
 
+-- `right`: what a statement gives on (), behind the focus.
 pub right-statement-requires : goal.right-statement-requires
-right-statement-requires t c = (omega (arith), (checks_part c.requires.checks 0 (omega arith) (fits_right c.args.s.now c.args.depth c.args.scope c.args.p c.requires.checks.scope), c.requires.lent))
+right-statement-requires t c = (omega arith, (checks_part c.requires.checks 0 (omega arith) (fits_right c.args.s.now c.args.depth c.args.scope c.args.p c.requires.checks.scope), c.requires.lent))
 
 pub right-write-requires : goal.right-write-requires
 right-write-requires t c = asks_seq (whole_loads c.requires.checks.loads) (room_after c.statement.auto.work (finds_done c.in-Done.is c.statement.ensures) c.requires.checks.ready.room) _ _ (omega (arith, c.requires.checks.ready.focus, (finds_done c.in-Done.is c.statement.ensures).grown)) (finds_done c.in-Done.is c.statement.ensures).inside
@@ -264,11 +262,12 @@ right-shape_of-work-in-Done t c = c.write.auto.work ∙ c.statement.auto.work
 pub right-returns-in-Done : goal.right-returns-in-Done
 right-returns-in-Done t c = right_finds c.args.s.now c.args.depth c.requires.checks.ready c.args.p (finds_done c.in-Done.is c.statement.ensures) c.write.ensures
 
+-- `snapshot`: the focus as a forest variable.
 pub snapshot-with-requires : goal.snapshot-with-requires
 snapshot-with-requires t c = (a_place c.requires.checks.ready.scoped (fits_snapshot c.args.s.now c.args.depth c.args.scope c.args.p c.requires.checks.scope).0, c.requires.checks.ready.scoped.sixteen, omega (arith, c.requires.checks.ready.focus, c.requires.checks.ready.room.small))
 
 pub snapshot-statement-requires : goal.snapshot-statement-requires
-snapshot-statement-requires t c = (omega (arith), (checks_with c.requires.checks c.with.ensures (a_place c.requires.checks.ready.scoped (fits_snapshot c.args.s.now c.args.depth c.args.scope c.args.p c.requires.checks.scope).0) c.requires.checks.ready.focus (fits_more c.args.s.now c.args.depth c.args.scope c.args.p c.with.ensures (fits_snapshot c.args.s.now c.args.depth c.args.scope c.args.p c.requires.checks.scope).1), c.requires.lent))
+snapshot-statement-requires t c = (omega arith, (checks_with c.requires.checks c.with.ensures (a_place c.requires.checks.ready.scoped (fits_snapshot c.args.s.now c.args.depth c.args.scope c.args.p c.requires.checks.scope).0) c.requires.checks.ready.focus (fits_more c.args.s.now c.args.depth c.args.scope c.args.p c.with.ensures (fits_snapshot c.args.s.now c.args.depth c.args.scope c.args.p c.requires.checks.scope).1), c.requires.lent))
 
 pub snapshot-shape_of-work : goal.snapshot-shape_of-work
 snapshot-shape_of-work t c = c.statement.auto.work
@@ -276,6 +275,7 @@ snapshot-shape_of-work t c = c.statement.auto.work
 pub snapshot-returns : goal.snapshot-returns
 snapshot-returns t c = snapshot_finds c.args.s.now c.args.depth c.requires.checks.ready c.args.p c.with.ensures c.statement.ensures
 
+-- `statement`: a statement row: a level of depth, a unit, and then by its kind.
 pub statement-returns-then-depth-eq0 : goal.statement-returns-then-depth-eq0
 statement-returns-then-depth-eq0 t c = finds_halt (goes_deep c.args.s.now c.args.work.now c.args.used c.args.scope c.args.depth c.args.at c.args.focus c.args.purse c.if-depth-eq0.true)
 
@@ -426,11 +426,12 @@ pub statement-returns-in-0-2 : goal.statement-returns-in-0-2
 unfolding statement_type
 statement-returns-in-0-2 t c = goes_as c.args.s.now c.args.work.now c.args.used c.args.scope c.args.depth c.args.at c.args.focus c.if-depth-eq0.false (form_none c.args.s.now c.args.at c.statement_at-c.result c.statement_at-c.ensures.is (fifteen_up c.in-0.in-0-own.rest.1 c.in-0.in-0-own.rest.0.0.0.0.0.0.0.0.0.0.0.0.0.0.1 c.in-0.in-0-own.rest.0.0.0.0.0.0.0.0.0.0.0.0.0.1 c.in-0.in-0-own.rest.0.0.0.0.0.0.0.0.0.0.0.0.1 c.in-0.in-0-own.rest.0.0.0.0.0.0.0.0.0.0.0.1 c.in-0.in-0-own.rest.0.0.0.0.0.0.0.0.0.0.1 c.in-0.in-0-own.rest.0.0.0.0.0.0.0.0.0.1 c.in-0.in-0-own.rest.0.0.0.0.0.0.0.0.1 c.in-0.in-0-own.rest.0.0.0.0.0.0.0.1 c.in-0.in-0-own.rest.0.0.0.0.0.0.1 c.in-0.in-0-own.rest.0.0.0.0.0.1 c.in-0.in-0-own.rest.0.0.0.0.1 c.in-0.in-0-own.rest.0.0.0.1 c.in-0.in-0-own.rest.0.0.1 c.in-0.in-0-own.rest.0.1)) _ (paid_left c.in-Left.is c.take.ensures) (finds_halt (halt_mismatch c.args.s.now c.args.at 2 _))
 
+-- `test`: a test: Mismatch, the statement, or the type as it is.
 pub test-judge-requires : goal.test-judge-requires
 test-judge-requires t c = (loads_shapely c.requires.checks.loads, omega (arith, c.requires.checks.ready.focus, c.requires.checks.ready.room.small))
 
 pub test-statement-requires : goal.test-statement-requires
-test-statement-requires t c = (omega (arith), (checks_part c.requires.checks c.args.focus c.requires.checks.ready.focus (fits_test c.args.s.now c.args.depth c.args.scope _ c.args.r c.requires.checks.scope), c.requires.lent))
+test-statement-requires t c = (omega arith, (checks_part c.requires.checks c.args.focus c.requires.checks.ready.focus (fits_test c.args.s.now c.args.depth c.args.scope _ c.args.r c.requires.checks.scope), c.requires.lent))
 
 pub test-returns-in-Misfit : goal.test-returns-in-Misfit
 test-returns-in-Misfit t c = finds_halt (test_misfit c.args.s.now c.args.depth c.requires.checks.ready c.args.at c.args.p c.args.q c.args.r (c.judge.ensures c.args.used c.requires.checks.ready.room.grows c.requires.checks.ready.focus) _ c.in-Misfit.is)

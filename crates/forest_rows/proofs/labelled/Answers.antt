@@ -1,5 +1,4 @@
 -- `forest_rows::labelled` meets its contract: a text or a bool has no label.
--- `forest_rows::labelled` meets its contract: a text or a bool has no label.
 use native.Mathlib.Omega.{arith}
 use Rattle.meaning.specs.Laws.Tests.{in_table_lem}
 use Rattle.sheet.specs.Laid.{cells_of}

@@ -1,13 +1,4 @@
--- A condition: the part, then its value is tested, then an arm or Stuck at the if.
--- The loop: a turn for each tree, then what the links hold.
--- A body for each tree: the forest, then the loop.
--- A forest in front of another: both parts, then the copies of the first.
--- A forest variable more: its value, then the body in the scope with a place more.
--- The trees with a label: the part, then the copies.
--- A query row: a level of depth, a unit, and then by its kind.
--- Whether two texts have the same bytes: both parts, then the two values are tested.
--- A labelled tree: its children, then one copy.
--- A turn: a unit, the tree alone in a row of its own, the body in the scope with a place more, its result kept as a link.
+-- The evaluators of a run's queries, which call each other, meet their contracts.
 use native.Mathlib.Omega.{arith}
 use mathlib.Core.Path.{refl, ◌∙◌, ap}
 use Rattle.meaning.specs.Run.{query_of, branch, inside, seen, same_texts}
@@ -26,17 +17,18 @@ use Rattle.walk.specs.Scope.{value_within}
 use Rattle.meaning.specs.Walk.{of_query}
 use Rattle.run_query.proofs.+queries.Goals as goal
 
+-- `choose`: a condition: the part, then its value is tested, then an arm or Stuck at the if.
 pub choose-query-requires : goal.choose-query-requires
-choose-query-requires t c = (omega (arith), asks_part c.requires (fits_if c.args.s.now c.args.depth c.args.scope c.args.p c.args.q c.args.r c.requires.scope).0)
+choose-query-requires t c = (omega arith, asks_part c.requires (fits_if c.args.s.now c.args.depth c.args.scope c.args.p c.args.q c.args.r c.requires.scope).0)
 
 pub choose-look-requires : goal.choose-look-requires
 choose-look-requires t c = readable _ (roomy_after c.requires.ready.roomy c.query.auto.rows (ran_done c.in-Done.is c.query.ensures)) (ran_done c.in-Done.is c.query.ensures).inside
 
 pub choose-query-requires-then-b : goal.choose-query-requires-then-b
-choose-query-requires-then-b t c = (omega (arith), asks_after c.requires 0 c.query.auto.rows (ran_done c.in-Done.is c.query.ensures) (omega arith) (fits_if c.args.s.now c.args.depth c.args.scope c.args.p c.args.q c.args.r c.requires.scope).1)
+choose-query-requires-then-b t c = (omega arith, asks_after c.requires 0 c.query.auto.rows (ran_done c.in-Done.is c.query.ensures) (omega arith) (fits_if c.args.s.now c.args.depth c.args.scope c.args.p c.args.q c.args.r c.requires.scope).1)
 
 pub choose-query-requires-else-b : goal.choose-query-requires-else-b
-choose-query-requires-else-b t c = (omega (arith), asks_after c.requires 0 c.query.auto.rows (ran_done c.in-Done.is c.query.ensures) (omega arith) (fits_if c.args.s.now c.args.depth c.args.scope c.args.p c.args.q c.args.r c.requires.scope).2)
+choose-query-requires-else-b t c = (omega arith, asks_after c.requires 0 c.query.auto.rows (ran_done c.in-Done.is c.query.ensures) (omega arith) (fits_if c.args.s.now c.args.depth c.args.scope c.args.p c.args.q c.args.r c.requires.scope).2)
 
 pub choose-shape_of-rows-in-Not : goal.choose-shape_of-rows-in-Not
 choose-shape_of-rows-in-Not t c = c.query.auto.rows
@@ -85,6 +77,7 @@ pub choose-returns-in-Node : goal.choose-returns-in-Node
 unfolding branch
 choose-returns-in-Node t c = choose_stuck c.args.s.now c.args.depth c.requires.ready c.args.p (ran_done c.in-Done.is c.query.ensures) c.args.at c.args.q c.args.r (sees_node c.in-Node.is (c.look.ensures (pool c.args.s.now))).is (λ y z. refl) _ refl
 
+-- `each`: the loop: a turn for each tree, then what the links hold.
 pub each-loop-at-init : goal.each-loop-at-init
 each-loop-at-init t c = (each_start c.args.s.now c.args.depth c.args.body c.requires, refl)
 
@@ -92,7 +85,7 @@ pub each-row-next-requires : goal.each-row-next-requires
 each-row-next-requires t c = (omega (arith, c.loop-at-test.true), omega (arith, c.loop-at.invariant.0.among, c.requires.ready.roomy.small), omega (arith, c.loop-at.invariant.0.among, c.loop-at.invariant.1, c.requires.ready.roomy.room))
 
 pub each-turn-requires : goal.each-turn-requires
-each-turn-requires t c = (omega (arith), (each_asks c.args.s.now c.args.depth c.args.body c.requires c.loop-at.invariant.0 c.loop-at.invariant.1, omega (arith, c.loop-at-test.true), c.loop-at.invariant.0.linked, c.loop-at.invariant.0.links))
+each-turn-requires t c = (omega arith, (each_asks c.args.s.now c.args.depth c.args.body c.requires c.loop-at.invariant.0 c.loop-at.invariant.1, omega (arith, c.loop-at-test.true), c.loop-at.invariant.0.linked, c.loop-at.invariant.0.links))
 
 pub each-shape_of-rows-in-Not : goal.each-shape_of-rows-in-Not
 each-shape_of-rows-in-Not t c = c.turn.auto.rows ∙ c.loop-at.invariant.1
@@ -115,11 +108,12 @@ each-shape_of-rows t c = c.gather-g.auto.rows ∙ c.loop-at.invariant.1
 pub each-returns : goal.each-returns
 each-returns t c = met_of (each_done c.args.s.now c.args.depth c.args.body c.requires c.loop-at.invariant.0 (omega (arith, c.loop-at-test.false)) c.gather-g.ensures)
 
+-- `for_each`: a body for each tree: the forest, then the loop.
 pub for_each-query-requires : goal.for_each-query-requires
-for_each-query-requires t c = (omega (arith), asks_part c.requires (fits_for c.args.s.now c.args.depth c.args.scope c.args.p c.args.q c.requires.scope).0)
+for_each-query-requires t c = (omega arith, asks_part c.requires (fits_for c.args.s.now c.args.depth c.args.scope c.args.p c.args.q c.requires.scope).0)
 
 pub for_each-each-requires : goal.for_each-each-requires
-for_each-each-requires t c = (omega (arith), asks_after c.requires _ c.query.auto.rows (ran_done c.in-Done.is c.query.ensures) (ran_done c.in-Done.is c.query.ensures).inside (fits_for c.args.s.now c.args.depth c.args.scope c.args.p c.args.q c.requires.scope).1)
+for_each-each-requires t c = (omega arith, asks_after c.requires _ c.query.auto.rows (ran_done c.in-Done.is c.query.ensures) (ran_done c.in-Done.is c.query.ensures).inside (fits_for c.args.s.now c.args.depth c.args.scope c.args.p c.args.q c.requires.scope).1)
 
 pub for_each-shape_of-rows-in-Not : goal.for_each-shape_of-rows-in-Not
 for_each-shape_of-rows-in-Not t c = c.query.auto.rows
@@ -134,11 +128,12 @@ for_each-shape_of-rows-in-Done t c = c.each.auto.rows ∙ c.query.auto.rows
 pub for_each-returns-in-Done : goal.for_each-returns-in-Done
 for_each-returns-in-Done t c = for_met c.args.s.now c.args.depth c.requires.ready c.args.p (ran_done c.in-Done.is c.query.ensures) c.args.q c.each.ensures
 
+-- `join`: a forest in front of another: both parts, then the copies of the first.
 pub join-query-requires : goal.join-query-requires
-join-query-requires t c = (omega (arith), asks_part c.requires (fits_join c.args.s.now c.args.depth c.args.scope c.args.p c.args.q c.requires.scope).0)
+join-query-requires t c = (omega arith, asks_part c.requires (fits_join c.args.s.now c.args.depth c.args.scope c.args.p c.args.q c.requires.scope).0)
 
 pub join-query-requires-in-Done : goal.join-query-requires-in-Done
-join-query-requires-in-Done t c = (omega (arith), asks_after c.requires 0 c.query.auto.rows (ran_done c.in-Done.is c.query.ensures) (omega arith) (fits_join c.args.s.now c.args.depth c.args.scope c.args.p c.args.q c.requires.scope).1)
+join-query-requires-in-Done t c = (omega arith, asks_after c.requires 0 c.query.auto.rows (ran_done c.in-Done.is c.query.ensures) (omega arith) (fits_join c.args.s.now c.args.depth c.args.scope c.args.p c.args.q c.requires.scope).1)
 
 pub join-front-requires : goal.join-front-requires
 join-front-requires t c = (roomy_after (roomy_after c.requires.ready.roomy c.query.auto.rows (ran_done c.in-Done.is c.query.ensures)) c.query-in-Done.auto.rows (ran_done c.in-Done-query.is c.query-in-Done.ensures), omega (arith, (ran_done c.in-Done.is c.query.ensures).inside, (ran_done c.in-Done-query.is c.query-in-Done.ensures).grown), (ran_done c.in-Done-query.is c.query-in-Done.ensures).inside)
@@ -164,14 +159,15 @@ pub join-returns-in-Done-query : goal.join-returns-in-Done-query
 unfolding query_of
 join-returns-in-Done-query t c = both_met c.args.s.now c.args.depth c.requires.ready c.args.p (ran_done c.in-Done.is c.query.ensures) c.args.q fronted (ran_done c.in-Done-query.is c.query-in-Done.ensures) (c.front.ensures (pool c.args.s.now))
 
+-- `let_in`: a forest variable more: its value, then the body in the scope with a place more.
 pub let_in-query-requires : goal.let_in-query-requires
-let_in-query-requires t c = (omega (arith), asks_part c.requires (fits_let c.args.s.now c.args.depth c.args.scope c.args.p c.args.q c.requires.scope).0)
+let_in-query-requires t c = (omega arith, asks_part c.requires (fits_let c.args.s.now c.args.depth c.args.scope c.args.p c.args.q c.requires.scope).0)
 
 pub let_in-with-requires : goal.let_in-with-requires
 let_in-with-requires t c = ((a_place c.requires.ready.scoped (fits_let c.args.s.now c.args.depth c.args.scope c.args.p c.args.q c.requires.scope).1), c.requires.ready.scoped.sixteen, (let f = (ran_done c.in-Done.is c.query.ensures) in omega (arith, f.inside, f.paid, c.requires.ready.roomy.small)))
 
 pub let_in-query-requires-in-Done : goal.let_in-query-requires-in-Done
-let_in-query-requires-in-Done t c = (omega (arith), asks_with (asks_after c.requires 0 c.query.auto.rows (ran_done c.in-Done.is c.query.ensures) (omega arith) c.requires.scope) c.with.ensures (a_place c.requires.ready.scoped (fits_let c.args.s.now c.args.depth c.args.scope c.args.p c.args.q c.requires.scope).1) (ran_done c.in-Done.is c.query.ensures).inside (fits_more c.args.s.now c.args.depth c.args.scope c.args.q c.with.ensures (fits_let c.args.s.now c.args.depth c.args.scope c.args.p c.args.q c.requires.scope).2))
+let_in-query-requires-in-Done t c = (omega arith, asks_with (asks_after c.requires 0 c.query.auto.rows (ran_done c.in-Done.is c.query.ensures) (omega arith) c.requires.scope) c.with.ensures (a_place c.requires.ready.scoped (fits_let c.args.s.now c.args.depth c.args.scope c.args.p c.args.q c.requires.scope).1) (ran_done c.in-Done.is c.query.ensures).inside (fits_more c.args.s.now c.args.depth c.args.scope c.args.q c.with.ensures (fits_let c.args.s.now c.args.depth c.args.scope c.args.p c.args.q c.requires.scope).2))
 
 pub let_in-shape_of-rows-in-Not : goal.let_in-shape_of-rows-in-Not
 let_in-shape_of-rows-in-Not t c = c.query.auto.rows
@@ -186,8 +182,9 @@ let_in-shape_of-rows-in-Done t c = c.query-in-Done.auto.rows ∙ c.query.auto.ro
 pub let_in-returns-in-Done : goal.let_in-returns-in-Done
 let_in-returns-in-Done t c = let_met c.args.s.now c.args.depth c.requires.ready c.args.p (ran_done c.in-Done.is c.query.ensures) c.args.q c.with.ensures c.query-in-Done.ensures.met
 
+-- `pick`: the trees with a label: the part, then the copies.
 pub pick-query-requires : goal.pick-query-requires
-pick-query-requires t c = (omega (arith), asks_part c.requires (fits_pick c.args.s.now c.args.depth c.args.scope c.args.p c.args.label c.requires.scope))
+pick-query-requires t c = (omega arith, asks_part c.requires (fits_pick c.args.s.now c.args.depth c.args.scope c.args.p c.args.label c.requires.scope))
 
 pub pick-picked-requires : goal.pick-picked-requires
 pick-picked-requires t c = (roomy_after c.requires.ready.roomy c.query.auto.rows (ran_done c.in-Done.is c.query.ensures), (ran_done c.in-Done.is c.query.ensures).inside)
@@ -206,6 +203,7 @@ pub pick-returns-in-Done : goal.pick-returns-in-Done
 unfolding query_of
 pick-returns-in-Done t c = met_then _ (ran_done c.in-Done.is c.query.ensures) (c.picked.ensures (pool c.args.s.now))
 
+-- `query`: a query row: a level of depth, a unit, and then by its kind.
 pub query-returns-then-depth-eq0 : goal.query-returns-then-depth-eq0
 query-returns-then-depth-eq0 t c = ran_stop (ask_deep c.args.s.now c.args.rows.now c.args.scope c.args.depth c.args.at c.args.purse c.if-depth-eq0.true)
 
@@ -340,11 +338,12 @@ pub query-returns-in-0-2 : goal.query-returns-in-0-2
 unfolding query_of
 query-returns-in-0-2 t c = ask_as c.args.s.now c.args.scope c.args.depth c.args.at c.if-depth-eq0.false (form_none c.args.s.now c.args.at (cells_of c.query_at-c.result) c.query_at-c.ensures.is (fourteen_up c.in-0.in-0-own.rest.1 c.in-0.in-0-own.rest.0.0.0.0.0.0.0.0.0.0.0.0.0.1 c.in-0.in-0-own.rest.0.0.0.0.0.0.0.0.0.0.0.0.1 c.in-0.in-0-own.rest.0.0.0.0.0.0.0.0.0.0.0.1 c.in-0.in-0-own.rest.0.0.0.0.0.0.0.0.0.0.1 c.in-0.in-0-own.rest.0.0.0.0.0.0.0.0.0.1 c.in-0.in-0-own.rest.0.0.0.0.0.0.0.0.1 c.in-0.in-0-own.rest.0.0.0.0.0.0.0.1 c.in-0.in-0-own.rest.0.0.0.0.0.0.1 c.in-0.in-0-own.rest.0.0.0.0.0.1 c.in-0.in-0-own.rest.0.0.0.0.1 c.in-0.in-0-own.rest.0.0.0.1 c.in-0.in-0-own.rest.0.0.1 c.in-0.in-0-own.rest.0.1)) _ (paid_left c.in-Left.is c.take.ensures) (met_stuck c.args.at _ refl)
 
+-- `same`: whether two texts have the same bytes: both parts, then the two values are tested.
 pub same-query-requires : goal.same-query-requires
-same-query-requires t c = (omega (arith), asks_part c.requires (fits_same c.args.s.now c.args.depth c.args.scope c.args.p c.args.q c.requires.scope).0)
+same-query-requires t c = (omega arith, asks_part c.requires (fits_same c.args.s.now c.args.depth c.args.scope c.args.p c.args.q c.requires.scope).0)
 
 pub same-query-requires-in-Done : goal.same-query-requires-in-Done
-same-query-requires-in-Done t c = (omega (arith), asks_after c.requires 0 c.query.auto.rows (ran_done c.in-Done.is c.query.ensures) (omega arith) (fits_same c.args.s.now c.args.depth c.args.scope c.args.p c.args.q c.requires.scope).1)
+same-query-requires-in-Done t c = (omega arith, asks_after c.requires 0 c.query.auto.rows (ran_done c.in-Done.is c.query.ensures) (omega arith) (fits_same c.args.s.now c.args.depth c.args.scope c.args.p c.args.q c.requires.scope).1)
 
 pub same-same_texts-requires : goal.same-same_texts-requires
 same-same_texts-requires t c = (roomy_after (roomy_after c.requires.ready.roomy c.query.auto.rows (ran_done c.in-Done.is c.query.ensures)) c.query-in-Done.auto.rows (ran_done c.in-Done-query.is c.query-in-Done.ensures), omega (arith, (ran_done c.in-Done.is c.query.ensures).inside, (ran_done c.in-Done-query.is c.query-in-Done.ensures).grown), (ran_done c.in-Done-query.is c.query-in-Done.ensures).inside)
@@ -370,8 +369,9 @@ pub same-returns-in-Done-query : goal.same-returns-in-Done-query
 unfolding query_of
 same-returns-in-Done-query t c = both_met c.args.s.now c.args.depth c.requires.ready c.args.p (ran_done c.in-Done.is c.query.ensures) c.args.q (λ (x y : Forest). same_texts (of_query c.args.at) (seen x) (seen y)) (ran_done c.in-Done-query.is c.query-in-Done.ensures) c.same_texts.ensures
 
+-- `tree`: a labelled tree: its children, then one copy.
 pub tree-query-requires : goal.tree-query-requires
-tree-query-requires t c = (omega (arith), asks_part c.requires.0 (fits_tree c.args.s.now c.args.depth c.args.scope c.args.label c.args.q c.requires.0.scope))
+tree-query-requires t c = (omega arith, asks_part c.requires.0 (fits_tree c.args.s.now c.args.depth c.args.scope c.args.label c.args.q c.requires.0.scope))
 
 pub tree-make-requires : goal.tree-make-requires
 tree-make-requires t c = node_asks c.args.label _ (roomy_after c.requires.0.ready.roomy c.query.auto.rows (ran_done c.in-Done.is c.query.ensures)) c.requires.1 (ran_done c.in-Done.is c.query.ensures).inside
@@ -390,6 +390,7 @@ pub tree-returns-in-Done : goal.tree-returns-in-Done
 unfolding query_of
 tree-returns-in-Done t c = met_then _ (ran_done c.in-Done.is c.query.ensures) (c.make.ensures (pool c.args.s.now))
 
+-- `turn`: a turn: a unit, the tree alone in a row of its own, the body in the scope with a place more, its result kept as a link.
 pub turn-row-t-requires : goal.turn-row-t-requires
 turn-row-t-requires t c = (c.requires.1, omega (arith, c.requires.0.ready.focus, c.requires.0.ready.roomy.small), omega (arith, c.requires.0.ready.focus, c.requires.0.ready.roomy.room))
 
@@ -400,7 +401,7 @@ pub turn-with-requires : goal.turn-with-requires
 turn-with-requires t c = (a_place c.requires.0.ready.scoped (fits_turn c.args.s.now c.args.depth c.args.scope c.args.body c.requires.0.scope).0, c.requires.0.ready.scoped.sixteen, omega (arith, c.push-one.ensures.row, (paid_left c.in-Left.is c.take.ensures), c.requires.0.ready.roomy.small))
 
 pub turn-query-requires : goal.turn-query-requires
-turn-query-requires t c = (omega (arith), turn_asks c.args.s.now c.args.depth c.args.body _ (cells_of c.row-t.result) c.requires.0 c.requires.1 (paid_left c.in-Left.is c.take.ensures) c.row-t.ensures.is c.push-one.ensures.written c.push-one.ensures.row c.with.ensures c.push-one.auto.rows)
+turn-query-requires t c = (omega arith, turn_asks c.args.s.now c.args.depth c.args.body _ (cells_of c.row-t.result) c.requires.0 c.requires.1 (paid_left c.in-Left.is c.take.ensures) c.row-t.ensures.is c.push-one.ensures.written c.push-one.ensures.row c.with.ensures c.push-one.auto.rows)
 
 pub turn-keep-requires : goal.turn-keep-requires
 turn-keep-requires t c = turn_keep c.args.s.now c.args.depth c.args.body _ (cells_of c.row-t.result) c.requires.0 c.requires.1 (paid_left c.in-Left.is c.take.ensures) c.row-t.ensures.is c.push-one.ensures.written c.push-one.ensures.row c.with.ensures (ran_done c.in-Done.is c.query.ensures) (ran_spare c.in-Done.is c.query.ensures) c.args.link c.requires.2 (c.query.auto.rows ∙ c.push-one.auto.rows)

@@ -1,15 +1,4 @@
--- A call: its queries, then the body with what they gave alone.
--- The children of one labelled tree, edited, under its label.
--- A condition, then one of two statements.
--- The loop: a turn for each tree, then what the links hold.
--- What a statement gives on (), before the focus.
--- A forest variable more: its value, then the statement in the scope with a place more.
--- One statement, then another on what it gave.
--- What a statement gives on (), behind the focus.
--- The focus as a forest variable.
--- A statement row: a level of depth, a unit, and then by its kind.
--- A test: Stuck, the statement, or the tree as it is.
--- A turn: a unit, the tree alone in a row of its own, the body on it, its result kept as a link.
+-- The evaluators of a run's statements, which call each other, meet their contracts.
 use native.Mathlib.Omega.{arith}
 use mathlib.Core.Path.{ap, ◌∙◌, refl}
 use Rattle.meaning.specs.Sheet as meaning
@@ -27,11 +16,12 @@ use Rattle.walk.specs.Fits.{a_place}
 use Rattle.walk.specs.Purse.{paid_left, paid_fuel}
 use Rattle.run_statement.proofs.+statements.Goals as goal
 
+-- `call`: a call: its queries, then the body with what they gave alone.
 pub call-procedure_at-body-requires : goal.call-procedure_at-body-requires
 call-procedure_at-body-requires t c = c.requires.0.asks.whole
 
 pub call-statement-requires : goal.call-statement-requires
-call-statement-requires t c = (omega (arith), edits_fresh (edits_part c.requires.0 c.args.focus c.requires.0.asks.ready.focus c.requires.0.asks.scope) c.new-none.ensures (finds_none c.args.s.now c.args.depth c.args.c.p c.args.c.q c.args.c.r (ap (λ (p : meaning.Procedure). p.body) c.procedure_at-body.ensures) c.requires.1 c.new-none.ensures c.if-c-eq0.true))
+call-statement-requires t c = (omega arith, edits_fresh (edits_part c.requires.0 c.args.focus c.requires.0.asks.ready.focus c.requires.0.asks.scope) c.new-none.ensures (finds_none c.args.s.now c.args.depth c.args.c.p c.args.c.q c.args.c.r (ap (λ (p : meaning.Procedure). p.body) c.procedure_at-body.ensures) c.requires.1 c.new-none.ensures c.if-c-eq0.true))
 
 pub call-shape_of-rows-then-c-eq0 : goal.call-shape_of-rows-then-c-eq0
 call-shape_of-rows-then-c-eq0 t c = c.statement.auto.rows
@@ -46,7 +36,7 @@ pub call-with-one-requires : goal.call-with-one-requires
 call-with-one-requires t c = let f = (ran_done c.in-Done.is c.query.ensures) in (omega (arith, c.new-none.ensures.none), c.new-none.ensures.sixteen, omega (arith, f.inside, f.paid, c.requires.0.asks.ready.roomy.small))
 
 pub call-statement-requires-then-c-eq0-2 : goal.call-statement-requires-then-c-eq0-2
-call-statement-requires-then-c-eq0-2 t c = let f = (ran_done c.in-Done.is c.query.ensures) in (omega (arith), edits_with (edits_fresh (edits_after c.requires.0 c.args.focus c.query.auto.rows f (omega (arith, c.requires.0.asks.ready.focus, f.grown)) c.requires.0.asks.scope) c.new-none.ensures c.requires.0.asks.scope) c.with-one.ensures (omega (arith, c.new-none.ensures.none)) f.inside (finds_one c.args.s.now c.args.depth c.args.c.p c.args.c.q c.args.c.r (ap (λ (p : meaning.Procedure). p.body) c.procedure_at-body.ensures) c.requires.1 c.new-none.ensures c.with-one.ensures c.if-c-eq0.false c.if-c-eq0-2.true))
+call-statement-requires-then-c-eq0-2 t c = let f = (ran_done c.in-Done.is c.query.ensures) in (omega arith, edits_with (edits_fresh (edits_after c.requires.0 c.args.focus c.query.auto.rows f (omega (arith, c.requires.0.asks.ready.focus, f.grown)) c.requires.0.asks.scope) c.new-none.ensures c.requires.0.asks.scope) c.with-one.ensures (omega (arith, c.new-none.ensures.none)) f.inside (finds_one c.args.s.now c.args.depth c.args.c.p c.args.c.q c.args.c.r (ap (λ (p : meaning.Procedure). p.body) c.procedure_at-body.ensures) c.requires.1 c.new-none.ensures c.with-one.ensures c.if-c-eq0.false c.if-c-eq0-2.true))
 
 pub call-shape_of-rows-then-c-eq0-2 : goal.call-shape_of-rows-then-c-eq0-2
 call-shape_of-rows-then-c-eq0-2 t c = c.statement-then-c-eq0-2.auto.rows ∙ c.query.auto.rows
@@ -61,7 +51,7 @@ pub call-with-requires : goal.call-with-requires
 call-with-requires t c = let f = (ran_done c.in-Done.is c.query.ensures) in let g = (ran_done c.in-Done-query.is c.query-in-Done.ensures) in (omega (arith, c.new-none.ensures.none, c.with-one.ensures.count), c.with-one.ensures.sixteen, omega (arith, f.paid, g.inside, g.paid, c.requires.0.asks.ready.roomy.small))
 
 pub call-statement-requires-in-Done-query : goal.call-statement-requires-in-Done-query
-call-statement-requires-in-Done-query t c = let f = (ran_done c.in-Done.is c.query.ensures) in let g = (ran_done c.in-Done-query.is c.query-in-Done.ensures) in (omega (arith), edits_with (edits_with (edits_fresh (edits_after (edits_after c.requires.0 c.args.focus c.query.auto.rows f (omega (arith, c.requires.0.asks.ready.focus, f.grown)) c.requires.0.asks.scope) c.args.focus c.query-in-Done.auto.rows g (omega (arith, c.requires.0.asks.ready.focus, f.grown, g.grown)) c.requires.0.asks.scope) c.new-none.ensures c.requires.0.asks.scope) c.with-one.ensures (omega (arith, c.new-none.ensures.none)) (omega (arith, f.inside, g.grown)) c.requires.0.asks.scope) c.with.ensures (omega (arith, c.new-none.ensures.none, c.with-one.ensures.count)) g.inside (finds_two c.args.s.now c.args.depth c.args.c.p c.args.c.q c.args.c.r (ap (λ (p : meaning.Procedure). p.body) c.procedure_at-body.ensures) c.requires.1 c.new-none.ensures c.with-one.ensures c.with.ensures c.if-c-eq0.false c.if-c-eq0-2.false))
+call-statement-requires-in-Done-query t c = let f = (ran_done c.in-Done.is c.query.ensures) in let g = (ran_done c.in-Done-query.is c.query-in-Done.ensures) in (omega arith, edits_with (edits_with (edits_fresh (edits_after (edits_after c.requires.0 c.args.focus c.query.auto.rows f (omega (arith, c.requires.0.asks.ready.focus, f.grown)) c.requires.0.asks.scope) c.args.focus c.query-in-Done.auto.rows g (omega (arith, c.requires.0.asks.ready.focus, f.grown, g.grown)) c.requires.0.asks.scope) c.new-none.ensures c.requires.0.asks.scope) c.with-one.ensures (omega (arith, c.new-none.ensures.none)) (omega (arith, f.inside, g.grown)) c.requires.0.asks.scope) c.with.ensures (omega (arith, c.new-none.ensures.none, c.with-one.ensures.count)) g.inside (finds_two c.args.s.now c.args.depth c.args.c.p c.args.c.q c.args.c.r (ap (λ (p : meaning.Procedure). p.body) c.procedure_at-body.ensures) c.requires.1 c.new-none.ensures c.with-one.ensures c.with.ensures c.if-c-eq0.false c.if-c-eq0-2.false))
 
 pub call-shape_of-rows-in-Not : goal.call-shape_of-rows-in-Not
 call-shape_of-rows-in-Not t c = c.query.auto.rows
@@ -81,11 +71,12 @@ call-shape_of-rows-in-Done-query t c = c.statement-in-Done-query.auto.rows ∙ c
 pub call-returns-in-Done-query : goal.call-returns-in-Done-query
 call-returns-in-Done-query t c = call_two c.args.s.now c.args.depth c.args.c.p c.args.c.q c.args.c.r c.requires.0.asks.ready (ap (λ (p : meaning.Procedure). p.body) c.procedure_at-body.ensures) (ran_done c.in-Done.is c.query.ensures) c.if-c-eq0.false c.new-none.ensures c.with-one.ensures c.if-c-eq0-2.false (ran_done c.in-Done-query.is c.query-in-Done.ensures) c.with.ensures c.statement-in-Done-query.ensures.met
 
+-- `children`: the children of one labelled tree, edited, under its label.
 pub children-look-requires : goal.children-look-requires
 children-look-requires t c = readable c.args.focus c.requires.asks.ready.roomy c.requires.asks.ready.focus
 
 pub children-statement-requires : goal.children-statement-requires
-children-statement-requires t c = let n = (sees_node c.in-Node.is (c.look.ensures (pool c.args.s.now))) in (omega (arith), edits_part c.requires _ (omega (arith, n.inside, c.requires.asks.ready.focus)) (fits_children c.args.s.now c.args.depth c.args.scope c.args.p c.requires.asks.scope))
+children-statement-requires t c = let n = (sees_node c.in-Node.is (c.look.ensures (pool c.args.s.now))) in (omega arith, edits_part c.requires _ (omega (arith, n.inside, c.requires.asks.ready.focus)) (fits_children c.args.s.now c.args.depth c.args.scope c.args.p c.requires.asks.scope))
 
 pub children-make-requires : goal.children-make-requires
 children-make-requires t c = let f = (ran_done c.in-Done.is c.statement.ensures) in let n = (sees_node c.in-Node.is (c.look.ensures (pool c.args.s.now))) in node_asks _ _ (roomy_after c.requires.asks.ready.roomy c.statement.auto.rows f) n.label f.inside
@@ -118,6 +109,7 @@ pub children-returns-in-Bool : goal.children-returns-in-Bool
 unfolding children_of
 children-returns-in-Bool t c = children_stuck c.args.s.now c.args.depth c.requires.asks.ready c.args.at c.args.p (sees_bool c.in-Bool.is (c.look.ensures (pool c.args.s.now))) _ refl
 
+-- `choose`: a condition, then one of two statements.
 pub choose-query-requires : goal.choose-query-requires
 choose-query-requires t c = edits_query c.requires (fits_if c.args.s.now c.args.depth c.args.scope c.args.c.p c.args.c.q c.args.c.r c.requires.asks.scope).0
 
@@ -125,10 +117,10 @@ pub choose-look-requires : goal.choose-look-requires
 choose-look-requires t c = let f = (ran_done c.in-Done.is c.query.ensures) in readable _ (roomy_after c.requires.asks.ready.roomy c.query.auto.rows f) f.inside
 
 pub choose-statement-requires : goal.choose-statement-requires
-choose-statement-requires t c = let f = (ran_done c.in-Done.is c.query.ensures) in (omega (arith), edits_after c.requires c.args.focus c.query.auto.rows f (omega (arith, c.requires.asks.ready.focus, f.grown)) (fits_if c.args.s.now c.args.depth c.args.scope c.args.c.p c.args.c.q c.args.c.r c.requires.asks.scope).1)
+choose-statement-requires t c = let f = (ran_done c.in-Done.is c.query.ensures) in (omega arith, edits_after c.requires c.args.focus c.query.auto.rows f (omega (arith, c.requires.asks.ready.focus, f.grown)) (fits_if c.args.s.now c.args.depth c.args.scope c.args.c.p c.args.c.q c.args.c.r c.requires.asks.scope).1)
 
 pub choose-statement-requires-else-b : goal.choose-statement-requires-else-b
-choose-statement-requires-else-b t c = let f = (ran_done c.in-Done.is c.query.ensures) in (omega (arith), edits_after c.requires c.args.focus c.query.auto.rows f (omega (arith, c.requires.asks.ready.focus, f.grown)) (fits_if c.args.s.now c.args.depth c.args.scope c.args.c.p c.args.c.q c.args.c.r c.requires.asks.scope).2)
+choose-statement-requires-else-b t c = let f = (ran_done c.in-Done.is c.query.ensures) in (omega arith, edits_after c.requires c.args.focus c.query.auto.rows f (omega (arith, c.requires.asks.ready.focus, f.grown)) (fits_if c.args.s.now c.args.depth c.args.scope c.args.c.p c.args.c.q c.args.c.r c.requires.asks.scope).2)
 
 pub choose-shape_of-rows-in-Not : goal.choose-shape_of-rows-in-Not
 choose-shape_of-rows-in-Not t c = c.query.auto.rows
@@ -177,6 +169,7 @@ pub choose-returns-in-Node : goal.choose-returns-in-Node
 unfolding branch
 choose-returns-in-Node t c = choose_stuck c.args.s.now c.args.depth c.requires.asks.ready c.args.c.p (ran_done c.in-Done.is c.query.ensures) c.args.at c.args.c.q c.args.c.r (sees_node c.in-Node.is (c.look.ensures (pool c.args.s.now))).is (λ y z. refl) _ refl
 
+-- `iter`: the loop: a turn for each tree, then what the links hold.
 pub iter-loop-at-init : goal.iter-loop-at-init
 iter-loop-at-init t c = (loop_start (body_went c.args.s.now c.args.rows.now c.args.scope c.args.depth c.args.body) (pool c.args.s.now) c.requires.asks.ready.roomy c.requires.asks.ready.focus, refl)
 
@@ -184,7 +177,7 @@ pub iter-row-next-requires : goal.iter-row-next-requires
 iter-row-next-requires t c = (omega (arith, c.loop-at-test.true), omega (arith, c.loop-at.invariant.0.among, c.requires.asks.ready.roomy.small), omega (arith, c.loop-at.invariant.0.among, c.loop-at.invariant.1, c.requires.asks.ready.roomy.room))
 
 pub iter-turn-requires : goal.iter-turn-requires
-iter-turn-requires t c = (omega (arith), (record { shaped = c.requires.shaped; asks = record { whole = c.requires.asks.whole; ready = loop_ready (body_went c.args.s.now c.args.rows.now c.args.scope c.args.depth c.args.body) (pool c.args.s.now) c.requires.asks.ready.roomy c.requires.asks.ready.focus c.loop-at.invariant.0 c.requires.asks.ready.scoped c.loop-at.invariant.1; scope = c.requires.asks.scope } }, omega (arith, c.loop-at-test.true), c.loop-at.invariant.0.linked, c.loop-at.invariant.0.links))
+iter-turn-requires t c = (omega arith, (record { shaped = c.requires.shaped; asks = record { whole = c.requires.asks.whole; ready = loop_ready (body_went c.args.s.now c.args.rows.now c.args.scope c.args.depth c.args.body) (pool c.args.s.now) c.requires.asks.ready.roomy c.requires.asks.ready.focus c.loop-at.invariant.0 c.requires.asks.ready.scoped c.loop-at.invariant.1; scope = c.requires.asks.scope } }, omega (arith, c.loop-at-test.true), c.loop-at.invariant.0.linked, c.loop-at.invariant.0.links))
 
 pub iter-shape_of-rows-in-Not : goal.iter-shape_of-rows-in-Not
 iter-shape_of-rows-in-Not t c = c.turn.auto.rows ∙ c.loop-at.invariant.1
@@ -207,8 +200,9 @@ iter-shape_of-rows t c = c.gather-g.auto.rows ∙ c.loop-at.invariant.1
 pub iter-returns : goal.iter-returns
 iter-returns t c = met_of (loop_done (body_went c.args.s.now c.args.rows.now c.args.scope c.args.depth c.args.body) (pool c.args.s.now) c.requires.asks.ready.roomy c.requires.asks.ready.focus c.loop-at.invariant.0 (omega (arith, c.loop-at-test.false)) (c.gather-g.ensures (pool c.args.s.now)))
 
+-- `left`: what a statement gives on (), before the focus.
 pub left-statement-requires : goal.left-statement-requires
-left-statement-requires t c = (omega (arith), edits_part c.requires 0 (omega arith) (fits_left c.args.s.now c.args.depth c.args.scope c.args.p c.requires.asks.scope))
+left-statement-requires t c = (omega arith, edits_part c.requires 0 (omega arith) (fits_left c.args.s.now c.args.depth c.args.scope c.args.p c.requires.asks.scope))
 
 pub left-front-requires : goal.left-front-requires
 left-front-requires t c = let f = (ran_done c.in-Done.is c.statement.ensures) in (roomy_after c.requires.asks.ready.roomy c.statement.auto.rows f, f.inside, omega (arith, c.requires.asks.ready.focus, f.grown))
@@ -227,6 +221,7 @@ pub left-returns-in-Done : goal.left-returns-in-Done
 unfolding statement_of
 left-returns-in-Done t c = beside_met c.args.s.now c.args.depth c.requires.asks.ready c.args.p (λ x f. fronted x f) (ran_done c.in-Done.is c.statement.ensures) (c.front.ensures (pool c.args.s.now))
 
+-- `let_in`: a forest variable more: its value, then the statement in the scope with a place more.
 pub let_in-query-requires : goal.let_in-query-requires
 let_in-query-requires t c = edits_query c.requires (fits_let c.args.s.now c.args.depth c.args.scope c.args.c.p c.args.c.q c.requires.asks.scope).0
 
@@ -234,7 +229,7 @@ pub let_in-with-requires : goal.let_in-with-requires
 let_in-with-requires t c = let f = (ran_done c.in-Done.is c.query.ensures) in (a_place c.requires.asks.ready.scoped (fits_let c.args.s.now c.args.depth c.args.scope c.args.c.p c.args.c.q c.requires.asks.scope).1, c.requires.asks.ready.scoped.sixteen, omega (arith, f.inside, f.paid, c.requires.asks.ready.roomy.small))
 
 pub let_in-statement-requires : goal.let_in-statement-requires
-let_in-statement-requires t c = let f = (ran_done c.in-Done.is c.query.ensures) in let fit = (fits_let c.args.s.now c.args.depth c.args.scope c.args.c.p c.args.c.q c.requires.asks.scope) in (omega (arith), edits_with (edits_after c.requires c.args.focus c.query.auto.rows f (omega (arith, c.requires.asks.ready.focus, f.grown)) c.requires.asks.scope) c.with.ensures (a_place c.requires.asks.ready.scoped fit.1) f.inside (fits_more c.args.s.now c.args.depth c.args.scope c.args.c.q c.with.ensures fit.2))
+let_in-statement-requires t c = let f = (ran_done c.in-Done.is c.query.ensures) in let fit = (fits_let c.args.s.now c.args.depth c.args.scope c.args.c.p c.args.c.q c.requires.asks.scope) in (omega arith, edits_with (edits_after c.requires c.args.focus c.query.auto.rows f (omega (arith, c.requires.asks.ready.focus, f.grown)) c.requires.asks.scope) c.with.ensures (a_place c.requires.asks.ready.scoped fit.1) f.inside (fits_more c.args.s.now c.args.depth c.args.scope c.args.c.q c.with.ensures fit.2))
 
 pub let_in-shape_of-rows-in-Not : goal.let_in-shape_of-rows-in-Not
 let_in-shape_of-rows-in-Not t c = c.query.auto.rows
@@ -249,11 +244,12 @@ let_in-shape_of-rows-in-Done t c = c.statement.auto.rows ∙ c.query.auto.rows
 pub let_in-returns-in-Done : goal.let_in-returns-in-Done
 let_in-returns-in-Done t c = let_met c.args.s.now c.args.depth c.requires.asks.ready c.args.c.p (ran_done c.in-Done.is c.query.ensures) c.args.c.q c.with.ensures c.statement.ensures.met
 
+-- `pair`: one statement, then another on what it gave.
 pub pair-statement-requires : goal.pair-statement-requires
-pair-statement-requires t c = (omega (arith), edits_part c.requires c.args.focus c.requires.asks.ready.focus (fits_then c.args.s.now c.args.depth c.args.scope c.args.c.p c.args.c.q c.requires.asks.scope).0)
+pair-statement-requires t c = (omega arith, edits_part c.requires c.args.focus c.requires.asks.ready.focus (fits_then c.args.s.now c.args.depth c.args.scope c.args.c.p c.args.c.q c.requires.asks.scope).0)
 
 pub pair-statement-requires-in-Done : goal.pair-statement-requires-in-Done
-pair-statement-requires-in-Done t c = let f = ran_done c.in-Done.is c.statement.ensures in (omega (arith), edits_after c.requires _ c.statement.auto.rows f f.inside (fits_then c.args.s.now c.args.depth c.args.scope c.args.c.p c.args.c.q c.requires.asks.scope).1)
+pair-statement-requires-in-Done t c = let f = ran_done c.in-Done.is c.statement.ensures in (omega arith, edits_after c.requires _ c.statement.auto.rows f f.inside (fits_then c.args.s.now c.args.depth c.args.scope c.args.c.p c.args.c.q c.requires.asks.scope).1)
 
 pub pair-shape_of-rows-in-Not : goal.pair-shape_of-rows-in-Not
 pair-shape_of-rows-in-Not t c = c.statement.auto.rows
@@ -268,8 +264,9 @@ pair-shape_of-rows-in-Done t c = c.statement-in-Done.auto.rows ∙ c.statement.a
 pub pair-returns-in-Done : goal.pair-returns-in-Done
 pair-returns-in-Done t c = then_met c.args.s.now c.args.depth c.requires.asks.ready c.args.c.p c.args.c.q (ran_done c.in-Done.is c.statement.ensures) c.statement-in-Done.ensures.met
 
+-- `right`: what a statement gives on (), behind the focus.
 pub right-statement-requires : goal.right-statement-requires
-right-statement-requires t c = (omega (arith), edits_part c.requires 0 (omega arith) (fits_right c.args.s.now c.args.depth c.args.scope c.args.p c.requires.asks.scope))
+right-statement-requires t c = (omega arith, edits_part c.requires 0 (omega arith) (fits_right c.args.s.now c.args.depth c.args.scope c.args.p c.requires.asks.scope))
 
 pub right-front-requires : goal.right-front-requires
 right-front-requires t c = let f = (ran_done c.in-Done.is c.statement.ensures) in (roomy_after c.requires.asks.ready.roomy c.statement.auto.rows f, omega (arith, c.requires.asks.ready.focus, f.grown), f.inside)
@@ -288,11 +285,12 @@ pub right-returns-in-Done : goal.right-returns-in-Done
 unfolding statement_of
 right-returns-in-Done t c = beside_met c.args.s.now c.args.depth c.requires.asks.ready c.args.p (λ x f. fronted f x) (ran_done c.in-Done.is c.statement.ensures) (c.front.ensures (pool c.args.s.now))
 
+-- `snapshot`: the focus as a forest variable.
 pub snapshot-with-requires : goal.snapshot-with-requires
 snapshot-with-requires t c = (a_place c.requires.asks.ready.scoped (fits_snapshot c.args.s.now c.args.depth c.args.scope c.args.p c.requires.asks.scope).0, c.requires.asks.ready.scoped.sixteen, omega (arith, c.requires.asks.ready.focus, c.requires.asks.ready.roomy.small))
 
 pub snapshot-statement-requires : goal.snapshot-statement-requires
-snapshot-statement-requires t c = let fit = (fits_snapshot c.args.s.now c.args.depth c.args.scope c.args.p c.requires.asks.scope) in (omega (arith), edits_with c.requires c.with.ensures (a_place c.requires.asks.ready.scoped fit.0) c.requires.asks.ready.focus (fits_more c.args.s.now c.args.depth c.args.scope c.args.p c.with.ensures fit.1))
+snapshot-statement-requires t c = let fit = (fits_snapshot c.args.s.now c.args.depth c.args.scope c.args.p c.requires.asks.scope) in (omega arith, edits_with c.requires c.with.ensures (a_place c.requires.asks.ready.scoped fit.0) c.requires.asks.ready.focus (fits_more c.args.s.now c.args.depth c.args.scope c.args.p c.with.ensures fit.1))
 
 pub snapshot-shape_of-rows : goal.snapshot-shape_of-rows
 snapshot-shape_of-rows t c = c.statement.auto.rows
@@ -300,6 +298,7 @@ snapshot-shape_of-rows t c = c.statement.auto.rows
 pub snapshot-returns : goal.snapshot-returns
 snapshot-returns t c = snapshot_met c.args.s.now c.args.depth c.requires.asks.ready c.args.p c.with.ensures c.statement.ensures.met
 
+-- `statement`: a statement row: a level of depth, a unit, and then by its kind.
 pub statement-returns-then-depth-eq0 : goal.statement-returns-then-depth-eq0
 statement-returns-then-depth-eq0 t c = ran_stop (went_deep c.args.s.now c.args.rows.now c.args.scope c.args.depth c.args.at c.args.focus c.args.purse c.if-depth-eq0.true)
 
@@ -445,11 +444,12 @@ pub statement-returns-in-0-2 : goal.statement-returns-in-0-2
 unfolding statement_of
 statement-returns-in-0-2 t c = went_as c.args.s.now c.args.scope c.args.depth c.args.at c.if-depth-eq0.false (form_none c.args.s.now c.args.at c.statement_at-c.result c.statement_at-c.ensures.is (fifteen_up c.in-0.in-0-own.rest.1 c.in-0.in-0-own.rest.0.0.0.0.0.0.0.0.0.0.0.0.0.0.1 c.in-0.in-0-own.rest.0.0.0.0.0.0.0.0.0.0.0.0.0.1 c.in-0.in-0-own.rest.0.0.0.0.0.0.0.0.0.0.0.0.1 c.in-0.in-0-own.rest.0.0.0.0.0.0.0.0.0.0.0.1 c.in-0.in-0-own.rest.0.0.0.0.0.0.0.0.0.0.1 c.in-0.in-0-own.rest.0.0.0.0.0.0.0.0.0.1 c.in-0.in-0-own.rest.0.0.0.0.0.0.0.0.1 c.in-0.in-0-own.rest.0.0.0.0.0.0.0.1 c.in-0.in-0-own.rest.0.0.0.0.0.0.1 c.in-0.in-0-own.rest.0.0.0.0.0.1 c.in-0.in-0-own.rest.0.0.0.0.1 c.in-0.in-0-own.rest.0.0.0.1 c.in-0.in-0-own.rest.0.0.1 c.in-0.in-0-own.rest.0.1)) c.args.focus _ (paid_left c.in-Left.is c.take.ensures) (met_stuck c.args.at _ refl)
 
+-- `test`: a test: Stuck, the statement, or the tree as it is.
 pub test-judge-requires : goal.test-judge-requires
 test-judge-requires t c = readable c.args.tree c.requires.asks.ready.roomy c.requires.asks.ready.focus
 
 pub test-statement-requires : goal.test-statement-requires
-test-statement-requires t c = (omega (arith), edits_part c.requires c.args.tree c.requires.asks.ready.focus (fits_test c.args.s.now c.args.depth c.args.scope _ c.args.c.r c.requires.asks.scope))
+test-statement-requires t c = (omega arith, edits_part c.requires c.args.tree c.requires.asks.ready.focus (fits_test c.args.s.now c.args.depth c.args.scope _ c.args.c.r c.requires.asks.scope))
 
 pub test-returns-in-Misfit : goal.test-returns-in-Misfit
 test-returns-in-Misfit t c = test_misfit c.args.s.now c.args.depth c.requires.asks.ready c.args.at c.args.c.p c.args.c.q c.args.c.r (c.judge.ensures (pool c.args.s.now)) _ c.in-Misfit.is
@@ -463,6 +463,7 @@ test-returns-in-Matched t c = test_matched c.args.s.now c.args.depth c.requires.
 pub test-returns-in-Passed : goal.test-returns-in-Passed
 test-returns-in-Passed t c = test_passed c.args.s.now c.args.depth c.requires.asks.ready c.args.at c.args.c.p c.args.c.q c.args.c.r (c.judge.ensures (pool c.args.s.now)) c.in-Passed.is c.args.purse
 
+-- `turn`: a turn: a unit, the tree alone in a row of its own, the body on it, its result kept as a link.
 pub turn-row-t-requires : goal.turn-row-t-requires
 turn-row-t-requires t c = (c.requires.1, omega (arith, c.requires.0.asks.ready.focus, c.requires.0.asks.ready.roomy.small), omega (arith, c.requires.0.asks.ready.focus, c.requires.0.asks.ready.roomy.room))
 
@@ -470,7 +471,7 @@ pub turn-push-one-requires : goal.turn-push-one-requires
 turn-push-one-requires t c = (omega (arith, (paid_left c.in-Left.is c.take.ensures), c.requires.0.asks.ready.roomy.room), omega (arith, c.requires.0.asks.ready.roomy.small), record { kind = c.row-t.ensures.small.kind; p = c.row-t.ensures.small.p; q = c.row-t.ensures.small.q; r = omega arith })
 
 pub turn-statement-requires : goal.turn-statement-requires
-turn-statement-requires t c = (omega (arith), record { shaped = c.requires.0.shaped; asks = record { whole = c.requires.0.asks.whole; ready = one_ready (pool c.args.s.now) _ (cells_of c.row-t.result) c.requires.0.asks.ready.roomy c.requires.1 c.requires.0.asks.ready.focus (paid_left c.in-Left.is c.take.ensures) c.row-t.ensures.is c.push-one.ensures.written c.push-one.ensures.row c.requires.0.asks.ready.scoped c.push-one.auto.rows; scope = c.requires.0.asks.scope } })
+turn-statement-requires t c = (omega arith, record { shaped = c.requires.0.shaped; asks = record { whole = c.requires.0.asks.whole; ready = one_ready (pool c.args.s.now) _ (cells_of c.row-t.result) c.requires.0.asks.ready.roomy c.requires.1 c.requires.0.asks.ready.focus (paid_left c.in-Left.is c.take.ensures) c.row-t.ensures.is c.push-one.ensures.written c.push-one.ensures.row c.requires.0.asks.ready.scoped c.push-one.auto.rows; scope = c.requires.0.asks.scope } })
 
 pub turn-keep-requires : goal.turn-keep-requires
 turn-keep-requires t c = one_keep (pool c.args.s.now) _ (cells_of c.row-t.result) c.requires.0.asks.ready.roomy c.requires.1 c.requires.0.asks.ready.focus (paid_left c.in-Left.is c.take.ensures) c.row-t.ensures.is c.push-one.ensures.written c.push-one.ensures.row (body_went c.args.s.now c.args.rows.now c.args.scope c.args.depth c.args.body) (body_on c.args.s.now c.args.rows.now c.requires.0.asks.ready.roomy.low c.requires.0.asks.ready.scoped c.args.depth c.args.body _ c.push-one.ensures.written) (ran_done c.in-Done.is c.statement.ensures) (ran_spare c.in-Done.is c.statement.ensures) c.args.link c.requires.2 (c.statement.auto.rows ∙ c.push-one.auto.rows)
