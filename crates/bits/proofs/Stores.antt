@@ -3,12 +3,12 @@ use mathlib.Core.Path.{◌≡◌, refl, sym, ap, ◌∙◌}
 use mathlib.Core.List.{List}
 use mathlib.Core.Bool.{Bool, true, false, ◌||◌}
 use Prim.Native.Nat.{ℕ, ◌+◌, ◌*◌, ◌/◌, ◌%◌, ◌^◌, ◌≤◌, ◌<◌}
-use native.Mathlib.Nat.{not-suc-le-zero}
+use native.Mathlib.Nat.{zero-add}
 use native.Mathlib.Decide.{ℕ_discrete}
 use native.Mathlib.Omega.{arith}
 use borrow.Author.Tests.{eq-eqb, ne_eqb}
-use lib.ListN.{length, get_or, set, length-set}
-use lib.Seq.{get_or-set_same, get_or-set_other}
+use lib.ListN.{length, get_or, set, take, drop, length-set}
+use lib.Seq.{get_or-set_same, get_or-set_other, get_or-take, get_or-drop}
 use lib.Bits.{bit_or}
 use lib.Dec.{eqb}
 use Rattle.bits.specs.Digits.{bit, test_or, bit_pow_same, bit_pow_other}
@@ -67,51 +67,36 @@ pub record UnitedTo (w : ℕ) (old new : List ℕ) (k : ℕ) (u : List ℕ) (j :
   pub rest : (x : ℕ) → 64 * w ≤ x → in_set new k x ≡ in_set old k x
   pub others : (h x : ℕ) → (h ≡ k → ⊥) → x < 576 → in_set new h x ≡ in_set old h x
 
-pub united_none : (old : List ℕ) (k : ℕ) (u : List ℕ) (j : ℕ) → UnitedTo 0 old old k u j
-united_none old k u j = record {
-  size = refl;
-  upto = λ x l. absurd (not-suc-le-zero l);
-  rest = λ x l. refl;
-  others = λ h x d l. refl;
-}
-
-pub united_all : {old new : List ℕ} {k : ℕ} {u : List ℕ} {j w : ℕ} → 9 ≤ w → UnitedTo w old new k u j → United old new k u j
-united_all l h = record {
-  size = h.size;
-  into = λ x lx. h.upto x (omega arith);
-  others = h.others;
-}
-
 module _ {old new : List ℕ} {k : ℕ} {u : List ℕ} {j w : ℕ} (l : length old ≡ 4617) (lk : k ≤ 512) (lw : w < 9) (h : UnitedTo w old new k u j) where
   -- one word more
-  pub united_more : (y : ℕ) → ((x : ℕ) → x / 64 ≡ w → eqb (bit y (x % 64)) 1 ≡ in_set u j x)
-      → UnitedTo (w + 1) old (set new (9 * k + w) (bit_or (get_or new (9 * k + w) 0) y)) k u j
-  united_more y d = record {
+  pub united_more : (y : ℕ) → y ≡ get_or u (9 * j + w) 0 → UnitedTo (w + 1) old (set new (9 * k + w) (bit_or (get_or new (9 * k + w) 0) y)) k u j
+  united_more y e = rw e (record {
     size = length-set new n v ∙ h.size;
     upto = λ x lx. elim (ℕ_discrete (x / 64) w) [
-      | yes q ↦ (stored_here new n v (omega (arith, h.size)) k x (omega arith) ∙ test_or (get_or new n 0) y (x % 64) ∙ word x q)
+      | yes q ↦ (stored_here new n v (omega (arith, h.size)) k x (omega arith) ∙ test_or (get_or new n 0) (get_or u (9 * j + w) 0) (x % 64) ∙ word x q)
       | no q ↦ (stored_apart new n v k x (λ g. q (omega arith)) ∙ h.upto x (omega arith))
     ];
     rest = λ x lx. stored_apart new n v k x (λ g. omega arith) ∙ h.rest x (omega arith);
     others = λ g x e lx. stored_apart new n v g x (λ f. e (omega arith)) ∙ h.others g x e lx;
-  }
+  })
     where
       n : ℕ
       n = 9 * k + w
 
       v : ℕ
-      v = bit_or (get_or new n 0) y
+      v = bit_or (get_or new n 0) (get_or u (9 * j + w) 0)
 
-      word : (x : ℕ) → x / 64 ≡ w → eqb (bit (get_or new n 0) (x % 64)) 1 || eqb (bit y (x % 64)) 1 ≡ in_set old k x || in_set u j x
-      word x q = rw (in_word new k x w q, d x q, h.rest x (omega arith))
+      word : (x : ℕ) → x / 64 ≡ w → eqb (bit (get_or new n 0) (x % 64)) 1 || eqb (bit (get_or u (9 * j + w) 0) (x % 64)) 1 ≡ in_set old k x || in_set u j x
+      word x q = rw (in_word new k x w q, in_word u j x w q, h.rest x (omega arith))
 
--- within one table the word that is read is still the old one
-pub united_more_in : {old new : List ℕ} {k j w : ℕ} → length old ≡ 4617 → k ≤ 512 → w < 9 → UnitedTo w old new k old j
-    → UnitedTo (w + 1) old (set new (9 * k + w) (bit_or (get_or new (9 * k + w) 0) (get_or new (9 * j + w) 0))) k old j
-united_more_in {old} {new} {k} {j} {w} l lk lw h = united_more l lk lw h (get_or new (9 * j + w) 0) (λ x q. in_word new j x w q ∙ old_word x q)
+-- the nine words of set j of u are a table whose set 0 it is
+pub united_words : {old new : List ℕ} {k : ℕ} {u : List ℕ} {j n : ℕ} (words : List ℕ) → words ≡ take n (drop (9 * j) u) → 9 ≤ n → United old new k words 0 → United old new k u j
+unfolding in_set
+united_words {old} {new} {k} {u} {j} {n} words is l h = record {
+  size = h.size;
+  into = λ x lx. h.into x lx ∙ ap (λ (b : Bool). in_set old k x || b) (alone x (omega arith));
+  others = h.others;
+}
   where
-    old_word : (x : ℕ) → x / 64 ≡ w → in_set new j x ≡ in_set old j x
-    old_word x q = elim (ℕ_discrete j k) [
-      | yes e ↦ rw e (h.rest x (omega arith))
-      | no e ↦ h.others j x e (omega arith)
-    ]
+    alone : (x : ℕ) → x / 64 < n → in_set words 0 x ≡ in_set u j x
+    alone x lx = rw (is, zero-add (x / 64), get_or-take n (drop (9 * j) u) (x / 64) 0 lx, get_or-drop (9 * j) u (x / 64) 0)

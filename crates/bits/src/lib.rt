@@ -8,6 +8,7 @@ ghost use Rattle.std.specs.Int.Count.{count_trailing_zeros, ones};
 ghost use Rattle.bits.specs.Sets.{in_set, in_both, Added, Removed, United, LowestBoth};
 ghost use Rattle.bits.specs.Counts.{count_to};
 
+// No heap: a table is one array that its caller lends, and a set or a place in it is a number.
 // The words of a table of sets, and the table; the rows of a flag each, 0 and the 512 of types, and the flags; the places that a set
 // has room for.
 pub const WORDS: usize = 4617;
@@ -16,16 +17,9 @@ pub type Sets = [u64; WORDS];
 
 pub const ROWS: usize = 513;
 
-pub type Flags = [u8; ROWS];
+pub type Flags = [bool; ROWS];
 
 pub const PLACES: usize = 576;
-
-// A number kept in 16 bits.
-pub fn wide(x: u16) -> usize
-    ensures { result ≡ x }
-{
-    x as usize
-}
 
 // 2 to the power of `k`.
 pub fn power(k: usize) -> u64
@@ -45,63 +39,63 @@ pub fn has(t: &Sets, k: usize, i: usize) -> bool
 
 // Adds place `i` to set `k`.
 pub fn add(t: &mut Sets, k: usize, i: usize)
-    requires t_len { length t.old ≡ 4617 }
-    requires k_bound { (k ≤ 512) × (i < 576) }
+    requires { (k ≤ 512) × (i < 576) }
     ensures { Added t.old t.new k i }
 {
     let w = 9 * k + i / 64;
-    t[w] = t[w] | power(i % 64);
+    t[w] |= power(i % 64);
 }
 
 // Takes place `i` out of set `k`.
 pub fn remove(t: &mut Sets, k: usize, i: usize)
-    requires t_len { length t.old ≡ 4617 }
     requires k_bound { (k ≤ 512) × (i < 576) }
     requires i_value { in_set t.old k i ≡ true }
     ensures { Removed t.old t.new k i }
 {
     let w = 9 * k + i / 64;
-    t[w] = t[w] ^ power(i % 64);
+    t[w] ^= power(i % 64);
+}
+
+// Adds the members of one set, which the nine `words` are, to set `k`.
+fn unite_words(t: &mut Sets, k: usize, words: &[u64])
+    requires { (k ≤ 512) × (length words.now ≡ 9) }
+    ensures { United t.old t.new k words.now 0 }
+{
+    for (w, word) in words.iter().enumerate() {
+        t[9 * k + w] |= *word;
+    }
 }
 
 // Adds the members of set `j` of `u` to set `k`.
 pub fn unite(t: &mut Sets, k: usize, u: &Sets, j: usize)
-    requires t_len { length t.old ≡ 4617 }
-    requires k_bound { (k ≤ 512) × (j ≤ 512) }
+    requires { (k ≤ 512) × (j ≤ 512) }
     ensures { United t.old t.new k u.now j }
 {
-    let mut w = 0;
-    while w < 9 {
-        t[9 * k + w] = t[9 * k + w] | u[9 * j + w];
-        w += 1;
-    }
+    unite_words(t, k, &u[9 * j..9 * j + 9]);
 }
 
 // The same within one table.
 pub fn unite_in(t: &mut Sets, k: usize, j: usize)
-    requires t_len { length t.old ≡ 4617 }
-    requires k_bound { (k ≤ 512) × (j ≤ 512) }
+    requires { (k ≤ 512) × (j ≤ 512) }
     ensures { United t.old t.new k t.old j }
 {
-    let mut w = 0;
-    while w < 9 {
-        t[9 * k + w] = t[9 * k + w] | t[9 * j + w];
-        w += 1;
-    }
+    let mut words = [0; 9];
+    words.copy_from_slice(&t[9 * j..9 * j + 9]);
+    unite_words(t, k, &words);
 }
 
-// The lowest digit 1 of a word, 64 where there is none.
+// The lowest digit 1 of a word, 64 where there is none. Here and below the cast loses nothing, and std has no `From` for it.
 fn low(x: u64) -> usize
     ensures { (result ≡ count_trailing_zeros 64 x) × (result ≤ 64) }
 {
-    u64::trailing_zeros(x) as usize
+    x.trailing_zeros() as usize
 }
 
 // How many digits of a word are 1.
 fn ones_of(x: u64) -> usize
     ensures { (result ≡ ones x) × (result ≤ 64) }
 {
-    u64::count_ones(x) as usize
+    x.count_ones() as usize
 }
 
 // What word `w` of set `k` of `t` and of set `j` of `u` have in common.
@@ -117,18 +111,17 @@ fn lowest_word(t: &Sets, k: usize, u: &Sets, j: usize, first: usize) -> usize
     requires { (k ≤ 512) × (j ≤ 512) × (first ≤ 9) }
     ensures { LowestBoth t.now k u.now j (64 * first) result }
 {
-    let mut w = first;
-    while w < 9 {
+    for w in first..9 {
         let x = both(t, k, u, j, w);
         if x != 0 {
             return 64 * w + low(x);
         }
-        w += 1;
     }
     PLACES
 }
 
-// The lowest place from `from` on that is in set `k` of `t` and in set `j` of `u`; 576 where there is none.
+// The lowest place from `from` on that is in set `k` of `t` and in set `j` of `u`; 576, the place past all, where there is none.
+// No Option, which would be no plainer: callers search on from the place after it, and where `several_both` holds there is one.
 pub fn lowest_both(t: &Sets, k: usize, u: &Sets, j: usize, from: usize) -> usize
     requires { (k ≤ 512) × (j ≤ 512) }
     ensures { LowestBoth t.now k u.now j from result }
@@ -150,15 +143,14 @@ pub fn several_both(t: &Sets, k: usize, u: &Sets, j: usize) -> bool
     ensures { result ≡ leb 2 (count_to (in_both t.now k u.now j) 576) }
 {
     let mut n = 0;
-    let mut w = 0;
-    while w < 9 {
+    for w in 0..9 {
         let common = both(t, k, u, j, w);
-        w += 1;
-        if common != 0 {
-            n += ones_of(common);
-            if 1 < n {
-                return true;
-            }
+        if common == 0 {
+            continue;
+        }
+        n += ones_of(common);
+        if 1 < n {
+            return true;
         }
     }
     false

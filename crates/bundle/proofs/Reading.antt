@@ -10,7 +10,7 @@ use lib.ListN.{length, take, drop, length-append, length-drop}
 use lib.Seq.{take_at, take-take}
 use Rattle.meaning.specs.Sheet.{need}
 use Rattle.meaning.specs.Bundle.{block_count, blocks_for, payload, payload_of, numbers_ok, checks_ok, padding_ok, framed, all_zero}
-use Rattle.bundle.specs.declared.Opened.TheVariants.{Sheet}
+use Rattle.std.specs.Prelude.{Some}
 use Rattle.bundle.specs.Calls.{OpensBy}
 use Rattle.meaning.specs.Laws.Bools.{either, and_left, and_right, and_both, no_left, no_right}
 
@@ -58,7 +58,7 @@ module _ {b after : List ℕ} {n : ℕ} (u : Unpacked b after n) where
   padded is e = let f = padding_is is ∙ e in search (no_left, no_right) depth 14
 
   pub is_framed : length b % 512 ≡ 0 → (length b / 512 ≡ 0 → ⊥) → length b / 512 ≤ 88 → numbers_ok b && checks_ok b ≡ true → block_count b ≡ blocks_for n
-      → {t : Bool} → t ≡ all_zero (drop n (take (508 * block_count b) after)) → t ≡ true → OpensBy b after (Sheet n)
+      → {t : Bool} → t ≡ all_zero (drop n (take (508 * block_count b) after)) → t ≡ true → OpensBy b after (Some n)
   is_framed even some few right count is e =
       let e0 = eq-eqb (length b % 512) 0 even in
       let e1 = le-leb 1 (block_count b) (omega arith) in

@@ -1,5 +1,5 @@
 -- What the reader's answer says of a bundle. Lent as many bytes as the largest sheet asks for, it never says Room.
-use Rattle.std.specs.Prelude.{◌≡◌, refl, Bool, true, false, List, ◌++◌, ℕ, ◌*◌, ◌≤◌, ◌<◌, leb, length, take, drop, get_or}
+use Rattle.std.specs.Prelude.{◌≡◌, refl, Bool, true, false, List, ◌++◌, ℕ, ◌*◌, ◌≤◌, ◌<◌, leb, length, take, drop, get_or, Result, Ok, Err}
 use Rattle.std.proofs.Common.{sym, ap, ◌∙◌, arith, le-leb, length-append, length-take, take_at}
 use Rattle.std.proofs.Math.ListN.{get_or-append}
 use Rattle.meaning.specs.Limits.{payload_words, most_blocks}
@@ -13,8 +13,8 @@ use Rattle.meaning.specs.Laws.Bools.{not_both}
 use Rattle.meaning.specs.Laws.Shaped.{long, limits_pass}
 use Rattle.meaning.specs.Laws.Words.{word_same}
 use Rattle.meaning.specs.Theorems.Trip.{need_front, few_blocks, read_done}
-use Rattle.bundle.specs.declared.Copied.{Copied}
-use Rattle.bundle.specs.declared.Copied.TheVariants.{Done, Block, Shape, Room}
+use Rattle.bundle.specs.declared.Refused.{Refused}
+use Rattle.bundle.specs.declared.Refused.TheVariants.{Block, Shape, Room}
 use Rattle.bundle.specs.Calls.{copied_of, replied}
 
 -- the payload of 88 blocks
@@ -63,25 +63,25 @@ in_front s rest e =
     let byte : (i : ℕ) → i < need s → get_or (s ++ rest) i 0 ≡ get_or s i 0 = λ i l. get_or-append s rest 0 i (omega (arith, long s e)) in
     same_need (s ++ rest) s (λ i l. word_same (s ++ rest) s (need s) i byte (omega arith))
 
-module _ (b lent : List ℕ) {after : List ℕ} {r : Copied} (reads : replied r after ≡ read b lent) where
-  says : {q : Copied} → r ≡ q → (read b lent).answer ≡ copied_of q
+module _ (b lent : List ℕ) {after : List ℕ} {r : Result (Unit {0}) Refused} (reads : replied r after ≡ read b lent) where
+  says : {q : Result (Unit {0}) Refused} → r ≡ q → (read b lent).answer ≡ copied_of q
   says e = ap (λ (c : reply.Copied). c.answer) (sym reads) ∙ ap copied_of e
 
-  pub read_block : r ≡ Block → framed b ≡ false
+  pub read_block : r ≡ Err Block → framed b ≡ false
   unfolding read
   read_block e = at_block (sheet_in b) lent (framed b) (shapely (sheet_in b)) (leb (need (sheet_in b)) (length lent)) (says e)
 
-  pub read_shape : r ≡ Shape → (framed b ≡ true) × (shapely (sheet_in b) ≡ false)
+  pub read_shape : r ≡ Err Shape → (framed b ≡ true) × (shapely (sheet_in b) ≡ false)
   unfolding read
   read_shape e = at_shape (sheet_in b) lent (framed b) (shapely (sheet_in b)) (leb (need (sheet_in b)) (length lent)) (says e)
 
-  pub never_room : largest ≤ length lent → r ≡ Room → ⊥
+  pub never_room : largest ≤ length lent → r ≡ Err Room → ⊥
   unfolding read
   never_room l e =
       let x = at_room (sheet_in b) lent (framed b) (shapely (sheet_in b)) (leb (need (sheet_in b)) (length lent)) (says e) in
       not_both (le-leb (need (sheet_in b)) (length lent) (omega (arith, few_blocks (sheet_in b) (limits_pass (sheet_in b) x.0)))) x.1
 
-  pub read_held : r ≡ Done → Held b after
+  pub read_held : r ≡ Ok tt → Held b after
   read_held e =
       let d = read_done b lent (says e) in
       let is : after ≡ sheet_in b ++ drop (length (sheet_in b)) lent = ap (λ (c : reply.Copied). c.bytes) (reads ∙ d.2) in

@@ -1,13 +1,18 @@
 -- Laws of blocks for the loops that read: what one turn adds stands at the end.
 use mathlib.Core.Path.{◌≡◌, refl, sym, ap, ap₂, ◌∙◌}
-use mathlib.Core.Bool.{true, false}
-use mathlib.Core.List.{List, [], ◌++◌, append_assoc, append-nil}
+use mathlib.Core.Bool.{Bool, true, false, ◌&&◌}
+use mathlib.Core.List.{List, [], ◌∷◌, ◌++◌, append_assoc, append-nil}
 use Prim.Native.Nat.{ℕ, zero, suc, ◌+◌, ◌*◌, ◌-◌, ◌%◌, ◌≤◌, ◌<◌}
 use native.Mathlib.Numerals.{add-one}
 use native.Mathlib.Omega.{arith}
-use borrow.Author.Tests.{ne_eqb}
-use lib.ListN.{length, get_or, take, drop, length-append, length-drop, take-append-drop, drop_of_length-le, get_or-append}
-use lib.Seq.{length-take-le, get_or-take, get_or-drop, drop-drop, take_at, drop_at, slice-cons, paste}
+use lib.Dec.{eqb}
+use Rattle.std.specs.List.{list_all, range_with_len}
+use Rattle.std.proofs.lemmas.List.Folds.{list_all-append}
+use lib.ListN.{length, take, drop, length-append, length-drop, take-append-drop, get_or-append}
+use lib.Seq.{length-take-le, get_or-take, get_or-drop, drop-drop, take_at, drop_at, paste}
+use borrow.Rule.Slice.PartMut.{put_mid}
+use Rattle.meaning.specs.Tests.{every}
+use Rattle.bundle_blocks.specs.Blocks.{number_ok, check_ok}
 use Rattle.meaning.specs.Words.{word_at}
 use Rattle.meaning.specs.Bundle.{word_sum, check_word, block_at, payload, all_zero}
 use Rattle.meaning.specs.Laws.Words.{word_same}
@@ -63,6 +68,12 @@ module _ (b : List ℕ) (k : ℕ) where
       ap check_word block_is
       ∙ ap (λ (s : ℕ). s % 65535) (sym (sum_front (take 512 x) (drop 512 x) 255 (omega arith)) ∙ ap (λ (l : List ℕ). word_sum l 255) (take-append-drop 512 x))
 
+-- the tests of block k, counted from 0, by what its words are
+pub block_tests : (b : List ℕ) (k : ℕ) → 512 * k + 512 ≤ length b → {number check sum : ℕ} → number ≡ word_at b (256 * k) → check ≡ word_at b (256 * k + 255)
+    → sum ≡ word_sum (drop (512 * k) b) 255 % 65535 → number_ok b (k + 1) && check_ok b (k + 1) ≡ eqb number (k + 1) && eqb check sum
+block_tests b k l n c s =
+    ap₂ (λ (x y : Bool). x && y) (ap (λ (x : ℕ). eqb x (k + 1)) (number_is b k ∙ sym n)) (ap₂ eqb (word_is b k 255 (omega arith) ∙ sym c) (check_is b k l ∙ sym s))
+
 -- ---- the payload
 
 pub payload_none : (b : List ℕ) → payload 0 b ≡ []
@@ -90,17 +101,41 @@ unpacked k b d out after is kept l e =
     ∙ front_grows (payload k b) (take 508 (drop (512 * k + 2) b)) d (508 * k) 508 (ap length (sym is) ∙ kept) l
     ∙ ap₂ (λ (x : List ℕ) (n : ℕ). x ++ drop n d) (sym (payload_more k b)) f
 
--- ---- padding
+-- a part that is copied into its place
+pub copied_is : (d : List ℕ) (at : ℕ) (from : List ℕ) {i j : ℕ} → i ≡ 508 → j ≡ 508 → {now : List ℕ} → now ≡ take j from → put_mid at i d now ≡ paste d at from 508
+copied_is d at from e f {now} is = rw (e, is, f, drop-drop 508 at d) (sym (append_assoc (take at d) (take 508 from) (drop (at + 508) d)))
 
-module _ (p : List ℕ) (i to : ℕ) (long : to ≤ length p) where
-  pub zero_more : i < to → get_or p i 0 ≡ 0 → all_zero (drop i (take to p)) ≡ all_zero (drop (i + 1) (take to p))
-  unfolding all_zero
-  zero_more l e = rw (slice-cons i to p 0 l long, e, add-one i)
+-- ---- tests over each block, and over each byte
 
-  pub zero_not : i < to → (get_or p i 0 ≡ 0 → ⊥) → all_zero (drop i (take to p)) ≡ false
-  unfolding all_zero
-  zero_not l e = rw (slice-cons i to p 0 l long, ne_eqb (get_or p i 0) 0 e)
+-- a number more at the end
+range_last : (a n : ℕ) → range_with_len a (suc n) ≡ range_with_len a n ++ (a + n) ∷ []
+range_last a zero = let e : a + 0 ≡ a = omega arith in rw e refl
+range_last a (suc n) = let e : a + 1 + n ≡ a + suc n = omega arith in ap (λ (l : List ℕ). a ∷ l) (range_last (a + 1) n ∙ rw e refl)
 
-  pub zero_end : to ≤ i → all_zero (drop i (take to p)) ≡ true
-  unfolding all_zero
-  zero_end l = rw (drop_of_length-le (take to p) {i = i} (omega (arith, length-take-le to p long)))
+-- two tests of each block, counted from 1, are one test of each, counted from 0
+pub every_both : (f g : ℕ → Bool) (m : ℕ) → every f m && every g m ≡ list_all (λ k. f (k + 1) && g (k + 1)) (range_with_len 0 m)
+unfolding every
+every_both f g zero = refl
+every_both f g (suc m) =
+    let test = λ (k : ℕ). f (k + 1) && g (k + 1) in
+    swapped (every f m) (f (suc m)) (every g m) (g (suc m)) ∙ ap (λ (b : Bool). b && (f (suc m) && g (suc m))) (every_both f g m)
+    ∙ sym (ap (list_all test) (range_last 0 m) ∙ list_all-append test (range_with_len 0 m) ((0 + m) ∷ []) ∙ ap (λ (b : Bool). list_all test (range_with_len 0 m) && b) last)
+  where
+    swapped : (a b c d : Bool) → (a && b) && (c && d) ≡ (a && c) && (b && d)
+    swapped true true true d = refl
+    swapped true true false d = refl
+    swapped true false true d = refl
+    swapped true false false d = refl
+    swapped false b c d = refl
+
+    last : list_all (λ (k : ℕ). f (k + 1) && g (k + 1)) ((0 + m) ∷ []) ≡ f (suc m) && g (suc m)
+    last = let e : 0 + m + 1 ≡ suc m = omega arith in rw e (and_true (f (suc m) && g (suc m)))
+      where
+        and_true : (a : Bool) → a && true ≡ a
+        and_true true = refl
+        and_true false = refl
+
+pub zero_all : (l : List ℕ) → all_zero l ≡ list_all (λ x. eqb x 0) l
+unfolding all_zero
+zero_all [] = refl
+zero_all (x ∷ l) = ap (λ (b : Bool). eqb x 0 && b) (zero_all l)

@@ -1,13 +1,18 @@
--- Laws of bundles for the writer's loops: a block as it is stored, byte by byte, and blocks with one more at the end.
+-- Laws of bundles for the writer: a payload as it is stored, a block as its three stores leave it, and blocks with one more at the end.
 use mathlib.Core.Path.{◌≡◌, refl, sym, ap, ap₂, ◌∙◌}
 use mathlib.Core.List.{List, [], ◌∷◌, ◌++◌, append_assoc, append-nil}
-use Prim.Native.Nat.{ℕ, zero, suc, ◌+◌, ◌*◌, ◌/◌, ◌%◌, ◌≤◌, ◌<◌}
+use Prim.Native.Nat.{ℕ, zero, suc, ◌+◌, ◌-◌, ◌*◌, ◌/◌, ◌%◌, ◌≤◌, ◌<◌}
+use mathlib.Core.Logic.{inl, inr}
+use Rattle.std.specs.Prelude.{min}
+use native.Mathlib.Nat.{eq-zero-or-pos}
 use native.Mathlib.Numerals.{add-one}
 use native.Mathlib.Omega.{arith}
-use lib.ListN.{length, get_or, set, take, drop, length-append, length-drop}
-use lib.Seq.{length-take-le, drop_at, set_at, sets-eq, drop-cons, drop-drop, paste-zero}
+use lib.ListN.{replicate, length, set, take, drop, length-append, length-drop, drop_of_length-le}
+use Rattle.std.proofs.lemmas.List.{drop-replicate, length-replicate, drop-append-le, take_all}
+use lib.Seq.{length-take-le, take_at, drop_at, sets-eq, drop-drop}
 use Rattle.meaning.specs.Words.{word_bytes}
 use Rattle.meaning.specs.Bundle.{word_sum, filled, block_front, block, blocks}
+use borrow.Rule.Slice.PartMut.{put_mid}
 use Rattle.words.specs.Puts.{put_word}
 use Rattle.bundle_blocks.specs.Blocks.{stored}
 use Rattle.bundle_blocks.proofs.Reading.{sum_front, front_grows}
@@ -42,31 +47,39 @@ bundled k p d out after is kept l e =
     ∙ front_grows (blocks k 1 p) more d (512 * k) 512 (ap length (sym is) ∙ kept) l
     ∙ ap₂ (λ (x : List ℕ) (n : ℕ). x ++ drop n d) (ap (λ (n : ℕ). blocks k 1 p ++ block n (drop (508 * k) p)) g ∙ sym (blocks_more k 1 p)) f
 
--- one byte more of what is filled to whole blocks
-filled_more : (j : ℕ) (p : List ℕ) → filled (suc j) p ≡ filled j p ++ get_or p j 0 ∷ []
+-- what is filled is the bytes that there are, and 0 behind them
+padded_is : (m n : ℕ) (p : List ℕ) → n ≤ m → n ≤ length p → (n < m → n ≡ length p) → filled m p ≡ take n p ++ replicate (m - n) 0
 unfolding filled
-filled_more zero [] = refl
-filled_more zero (x ∷ p) = refl
-filled_more (suc j) [] = ap (λ (l : List ℕ). 0 ∷ l) (filled_more j [])
-filled_more (suc j) (x ∷ p) = ap (λ (l : List ℕ). x ∷ l) (filled_more j p)
+padded_is zero zero p l h g = refl
+padded_is zero (suc n) p l h g = absurd (omega arith)
+padded_is (suc m) zero [] l h g = let e : suc m - 0 ≡ suc (m - 0) = omega arith in rw e (ap (λ (r : List ℕ). 0 ∷ r) (padded_is m zero [] (omega arith) (omega arith) (λ x. refl)))
+padded_is (suc m) zero (x ∷ p) l h g = absurd (let e = g (omega arith) in omega arith)
+padded_is (suc m) (suc n) [] l h g = absurd (omega arith)
+padded_is (suc m) (suc n) (x ∷ p) l h g =
+    let e : suc m - suc n ≡ m - n = omega arith in
+    rw e (ap (λ (r : List ℕ). x ∷ r) (padded_is m n p (omega arith) (omega arith) (λ q. let k = g (omega arith) in omega arith)))
 
--- ---- a payload stored byte by byte
+-- what is left of the bytes s from place x on, if that place is no further than their end
+pub rest_is : (s : List ℕ) (x a : ℕ) → a ≡ min (length s) x → take (length s - a) (drop a s) ≡ drop x s
+rest_is s x a e = take_all (length s - a) (drop a s) (omega (arith, length-drop a s)) ∙ elim (eq-zero-or-pos (x - length s)) [
+  | inl q ↦ (let f : a ≡ x = omega arith in rw f refl)
+  | inr q ↦ (drop_of_length-le s {i = a} (omega arith) ∙ sym (drop_of_length-le s {i = x} (omega arith)))
+]
 
-module _ (d : List ℕ) (at : ℕ) (p : List ℕ) where
-  pub stored_none : d ≡ stored d at p 0
-  unfolding filled
-  stored_none = paste-zero d at []
+-- ---- a payload stored: zeros, and over them the n bytes that there are of p
 
-  -- a turn of the loop that stores
-  pub stored_more : (j : ℕ) (out : List ℕ) (v : ℕ) → at + j < length d → out ≡ stored d at p j → length out ≡ length d → v ≡ get_or p j 0 → set out (at + j) v ≡ stored d at p (j + 1)
-  stored_more j out v l is kept byte =
-      let head = take at d ++ filled j p in
-      let rest = drop (suc (at + j)) d in
-      let g : at + suc j ≡ suc (at + j) = omega arith in
-      let long = ap length is in
-      ap (λ (r : List ℕ). set r (at + j) v) (is ∙ ap (λ (r : List ℕ). head ++ r) (drop-cons d (at + j) 0 l))
-      ∙ set_at head (get_or d (at + j) 0) rest v (at + j) (omega (arith, length-append head (drop (at + j) d), length-drop (at + j) d))
-      ∙ rw (byte, add-one j, filled_more j p, g) (sym (append_assoc head (get_or p j 0 ∷ []) rest) ∙ ap (λ (r : List ℕ). r ++ rest) (append_assoc (take at d) (filled j p) (get_or p j 0 ∷ [])))
+pub stored_is : (d : List ℕ) (at m n : ℕ) (p : List ℕ) → at + m ≤ length d → n ≤ m → n ≤ length p → (n < m → n ≡ length p) → {z now : List ℕ} {i j : ℕ} → i ≡ m → j ≡ n
+    → z ≡ replicate m 0 → now ≡ take n p → put_mid at j (put_mid at i d z) now ≡ stored d at p m
+stored_is d at m n p l ln lp g {z} {now} {i} {j} ei ej ez en =
+    let size : length (take at d) ≡ at = length-take-le at d (omega arith) in
+    let rest = drop m (drop at d) in
+    let body = replicate m 0 ++ rest in
+    let front = take_at (take at d) body at size in
+    let back = drop_at (take at d) body at size in
+    let behind : drop n body ≡ replicate (m - n) 0 ++ rest = drop-append-le n (replicate m 0) rest (omega (arith, length-replicate {A = ℕ} m 0)) ∙ ap (λ (r : List ℕ). r ++ rest) (drop-replicate n m 0) in
+    rw (ei, ej, ez, en, front, back, behind, drop-drop m at d, padded_is m n p ln lp g)
+    (ap (λ (r : List ℕ). take at d ++ r) (sym (append_assoc (take n p) (replicate (m - n) 0) (drop (at + m) d)))
+    ∙ sym (append_assoc (take at d) (take n p ++ replicate (m - n) 0) (drop (at + m) d)))
 
 -- ---- a block stored in the bytes d from place at on: its number, then its payload, then its check
 

@@ -1,5 +1,5 @@
 -- How a question about a bundle comes to its reply: refused by the reader, lent room for the largest sheet, or asked of the sheet that it read.
-use Rattle.std.specs.Prelude.{ℕ, ◌≤◌, ◌≡◌, refl, false, List, [], length, take}
+use Rattle.std.specs.Prelude.{ℕ, ◌≤◌, ◌≡◌, refl, false, List, [], length, take, Result, Ok, Err}
 use Rattle.std.proofs.Common.{ap, ◌∙◌, inl, inr}
 use Rattle.meaning.specs.Tests.{in_table}
 use Rattle.meaning.specs.Words.{zeroed}
@@ -28,20 +28,35 @@ use Rattle.meaning.specs.Reply.{
   ApplyReply,
   read,
 }
-use Rattle.bundle.specs.declared.Copied.{Copied}
-use Rattle.bundle.specs.declared.Copied.TheVariants.{Done, Block, Shape, Room}
+use Rattle.bundle.specs.declared.Refused.{Refused}
+use Rattle.bundle.specs.declared.Refused.TheVariants.{Block, Shape, Room}
 use Rattle.bundle.specs.Calls.{copied_of, replied}
 use Rattle.bundle.specs.Reads.{largest, Held, read_block, read_shape, never_room}
-use Rattle.fit.specs.declared.Answer.{Answer as FitAnswer}
+use Rattle.fit.specs.declared.Refusal.{Refusal as FitRefusal}
 use Rattle.fit.specs.Answers.{fit_of}
-use Rattle.desk.specs.declared.Checked.{Checked as CheckAnswer}
+use Rattle.desk.specs.declared.CheckRefusal.{CheckRefusal}
 use Rattle.desk.specs.Checking.{checked_answer, checked_units, checked_reply}
-use Rattle.desk.specs.declared.Ran.{Ran as RunAnswer}
+use Rattle.desk.specs.declared.Ran.{Ran as Done}
+use Rattle.desk.specs.declared.RunRefusal.{RunRefusal}
 use Rattle.desk.specs.Said.{ran_answer, ran_units, ran_root, ran_reply}
-use Rattle.desk.specs.declared.Applied.{Applied as ApplyAnswer}
+use Rattle.desk.specs.declared.Applied.{Applied}
+use Rattle.desk.specs.declared.ApplyRefusal.{ApplyRefusal}
 use Rattle.desk.specs.Applying.{applied_answer, first_units, last_units, applied_root, applied_reply}
 use Rattle.calls.specs.declared.Reply.{Reply as Plain}
 use Rattle.calls.specs.Plain.{plain, Gives, Check, Fit, Run, Apply}
+
+-- what the questions answer
+abbrev CheckAnswer : Type 0
+CheckAnswer = Result ℕ CheckRefusal
+
+abbrev FitAnswer : Type 0
+FitAnswer = Result (Unit {0}) FitRefusal
+
+abbrev RunAnswer : Type 0
+RunAnswer = Result Done RunRefusal
+
+abbrev ApplyAnswer : Type 0
+ApplyAnswer = Result Applied ApplyRefusal
 
 -- a reply before any walk: no units, no root, working bytes zero
 abbrev at_once : Answer → List ℕ → List ℕ → Reply
@@ -69,17 +84,16 @@ module _ (s : List ℕ) (e : shapely s ≡ false) where
 
 module _ (b lent : List ℕ) {after : List ℕ} where
   refused_reply : (work result : List ℕ) (Asked : List ℕ → Reply → Type 0) → (shapely (sheet_in b) ≡ false → Asked (sheet_in b) (at_once (refused shape) result work))
-      → (r : Copied) → replied r after ≡ read b lent → largest ≤ length lent → (r ≡ Done → ⊥) → OfBundle b work result Asked (at_once (copied_of r) result work)
-  refused_reply work result Asked misshaped Done e l n = absurd (n refl)
-  refused_reply work result Asked misshaped Block e l n = unframed (read_block b lent e refl)
-  refused_reply work result Asked misshaped Shape e l n = let x = read_shape b lent e refl in opened x.0 (misshaped x.1)
-  refused_reply work result Asked misshaped Room e l n = absurd (never_room b lent e l refl)
+      → (r : Refused) → replied (Err r) after ≡ read b lent → largest ≤ length lent → OfBundle b work result Asked (at_once (copied_of (Err r)) result work)
+  refused_reply work result Asked misshaped Block e l = unframed (read_block b lent e refl)
+  refused_reply work result Asked misshaped Shape e l = let x = read_shape b lent e refl in opened x.0 (misshaped x.1)
+  refused_reply work result Asked misshaped Room e l = absurd (never_room b lent e l refl)
 
-  module _ {r : Copied} {p : Plain} (reads : replied r after ≡ read b lent) (room : largest ≤ length lent) (not_done : r ≡ Done → ⊥) (says : p ≡ plain (answer_code (copied_of r)) 0 0 0) where
+  module _ (r : Refused) {p : Plain} (reads : replied (Err r) after ≡ read b lent) (room : largest ≤ length lent) (says : p ≡ plain (answer_code (copied_of (Err r))) 0 0 0) where
     pub check_refused : (work : List ℕ) {w : List ℕ} → w ≡ zeroed work → Gives (Check b work) p [] w
     check_refused work z = record {
-      reply = at_once (copied_of r) [] work;
-      asked = refused_reply work [] (λ s. CheckReply s work) (λ e. check_misshapen (sheet_in b) e work) r reads room not_done;
+      reply = at_once (copied_of (Err r)) [] work;
+      asked = refused_reply work [] (λ s. CheckReply s work) (λ e. check_misshapen (sheet_in b) e work) r reads room;
       says = says;
       result_is = refl;
       work_is = z;
@@ -87,8 +101,8 @@ module _ (b lent : List ℕ) {after : List ℕ} where
 
     pub fit_refused : (t : ℕ) → Gives (Fit b t) p [] []
     fit_refused t = record {
-      reply = at_once (copied_of r) [] [];
-      asked = refused_reply [] [] (λ s. FitReply s t) (λ e. fit_misshapen (sheet_in b) e t) r reads room not_done;
+      reply = at_once (copied_of (Err r)) [] [];
+      asked = refused_reply [] [] (λ s. FitReply s t) (λ e. fit_misshapen (sheet_in b) e t) r reads room;
       says = says;
       result_is = refl;
       work_is = refl;
@@ -96,8 +110,8 @@ module _ (b lent : List ℕ) {after : List ℕ} where
 
     pub run_refused : (work result : List ℕ) {w : List ℕ} → w ≡ zeroed work → Gives (Run b work result) p result w
     run_refused work result z = record {
-      reply = at_once (copied_of r) result work;
-      asked = refused_reply work result (λ s. RunReply s work result) (λ e. run_misshapen (sheet_in b) e work result) r reads room not_done;
+      reply = at_once (copied_of (Err r)) result work;
+      asked = refused_reply work result (λ s. RunReply s work result) (λ e. run_misshapen (sheet_in b) e work result) r reads room;
       says = says;
       result_is = refl;
       work_is = z;
@@ -105,8 +119,8 @@ module _ (b lent : List ℕ) {after : List ℕ} where
 
     pub apply_refused : (work result : List ℕ) {w : List ℕ} → w ≡ zeroed work → Gives (Apply b work result) p result w
     apply_refused work result z = record {
-      reply = at_once (copied_of r) result work;
-      asked = refused_reply work result (λ s. ApplyReply s work result) (λ e. apply_misshapen (sheet_in b) e work result) r reads room not_done;
+      reply = at_once (copied_of (Err r)) result work;
+      asked = refused_reply work result (λ s. ApplyReply s work result) (λ e. apply_misshapen (sheet_in b) e work result) r reads room;
       says = says;
       result_is = refl;
       work_is = z;

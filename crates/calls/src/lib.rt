@@ -2,7 +2,7 @@
 // the reader gives.
 #![tactic(auto)]
 
-ghost use Rattle.std.specs.Prelude.{◌≡◌, []};
+ghost use Rattle.std.specs.Prelude.{◌≡◌, [], Err};
 ghost use Rattle.meaning.specs.Words.{zeroed};
 ghost use Rattle.meaning.specs.Reply.{answer_code};
 ghost use Rattle.meaning.specs.Reply as reply;
@@ -14,10 +14,10 @@ ghost use Rattle.desk.specs.Applying.{applied_answer, first_units, last_units, a
 ghost use Rattle.coded.specs.Numbers.{numbers};
 ghost use Rattle.calls.specs.Plain.{plain, Copies, Gives, Check, Fit, Run, Apply};
 
-use bundle::Copied;
+use bundle::{LARGEST, Refused};
 use coded::Coded;
-use desk::{Applied, Checked, Ran};
-use fit::Answer;
+use desk::{Applied, ApplyRefusal, CheckRefusal, Ran, RunRefusal};
+use fit::Refusal;
 
 // An answer's number with what it carries, the units of both walks, and the root of a result.
 #[repr(C)]
@@ -44,25 +44,25 @@ fn plainly(c: Coded, check_units: usize, run_units: usize, root: usize) -> Reply
     }
 }
 
-fn copied(answer: Copied) -> Reply
+fn copied(answer: Result<(), Refused>) -> Reply
     ensures { result ≡ plain (answer_code (copied_of answer)) 0 0 0 }
 {
     plainly(coded::copied(answer), 0, 0, 0)
 }
 
-fn checked(answer: Checked) -> Reply
+fn checked(answer: Result<usize, CheckRefusal>) -> Reply
     ensures { result ≡ plain (answer_code (checked_answer answer)) (checked_units answer) 0 0 }
 {
     plainly(coded::checked(answer), coded::check_units(answer), 0, 0)
 }
 
-fn fitted(answer: Answer) -> Reply
+fn fitted(answer: Result<(), Refusal>) -> Reply
     ensures { result ≡ plain (answer_code (fit_of answer)) 0 0 0 }
 {
     plainly(coded::fitted(answer), 0, 0, 0)
 }
 
-fn ran(answer: Ran) -> Reply
+fn ran(answer: Result<Ran, RunRefusal>) -> Reply
     ensures { result ≡ plain (answer_code (ran_answer answer)) 0 (ran_units answer) (ran_root answer) }
 {
     plainly(
@@ -73,7 +73,7 @@ fn ran(answer: Ran) -> Reply
     )
 }
 
-fn applied(answer: Applied) -> Reply
+fn applied(answer: Result<Applied, ApplyRefusal>) -> Reply
     ensures { result ≡ plain (answer_code (applied_answer answer)) (first_units answer) (last_units answer) (applied_root answer) }
 {
     plainly(
@@ -85,11 +85,11 @@ fn applied(answer: Applied) -> Reply
 }
 
 // The reader's refusal of a question: the working bytes are zero after it too.
-fn refused(answer: Copied, work: &mut [u8]) -> Reply
-    ensures { (result ≡ plain (answer_code (copied_of answer)) 0 0 0) × (work.new ≡ zeroed work.old) }
+fn refused(why: Refused, work: &mut [u8]) -> Reply
+    ensures { (result ≡ plain (answer_code (copied_of (Err why))) 0 0 0) × (work.new ≡ zeroed work.old) }
 {
     words::zero(work);
-    copied(answer)
+    copied(Err(why))
 }
 
 // A bundle into the lent tables: 0, 1, 2 or 13.
@@ -106,44 +106,48 @@ pub fn chukelowa_write(tables: &[u8], blocks: &mut [u8]) -> Reply
     copied(bundle::write(tables, blocks))
 }
 
-// Does the bundle's script take A into B: 0 to 9 or 12.
+// Does the bundle's script take A into B: 0 to 9 or 12. Each question reads the bundle so, in four lines; a function that takes the
+// question as a closure would be proved at each use, and is no plainer.
 pub fn chukelowa_check(bundle: &[u8], work: &mut [u8]) -> Reply
     ensures { Gives (Check bundle.now work.old) result [] work.new }
 {
-    let mut tables = [0u8; 44704];
-    let answer = bundle::read(bundle, &mut tables);
-    let Copied::Done = answer else {
-        return refused(answer, work);
-    };
-    let need = sheet::need_of(&tables);
-    checked(desk::check(&tables[..need], work))
+    let mut tables = [0u8; LARGEST];
+    match bundle::read(bundle, &mut tables) {
+        Err(why) => refused(why, work),
+        Ok(()) => {
+            let need = sheet::need_of(&tables);
+            checked(desk::check(&tables[..need], work))
+        }
+    }
 }
 
 // Is the bundle's forest of the type at row `told`: 0 to 4 or 10.
 pub fn chukelowa_fit(bundle: &[u8], told: usize) -> Reply
     ensures { Gives (Fit bundle.now told) result [] [] }
 {
-    let mut tables = [0u8; 44704];
-    let answer = bundle::read(bundle, &mut tables);
-    let Copied::Done = answer else {
-        return copied(answer);
-    };
-    let need = sheet::need_of(&tables);
-    fitted(fit::fit(&tables[..need], told))
+    let mut tables = [0u8; LARGEST];
+    match bundle::read(bundle, &mut tables) {
+        Err(why) => copied(Err(why)),
+        Ok(()) => {
+            let need = sheet::need_of(&tables);
+            fitted(fit::fit(&tables[..need], told))
+        }
+    }
 }
 
-// The edited forest, in the result rows: 0 to 6 or 11 to 13.
+// The edited forest, in the result rows: 0 to 6 or 11 to 13. A call for each question, as the C interface has them.
 pub fn chukelowa_run(bundle: &[u8], work: &mut [u8], res: &mut [u8]) -> Reply
     ensures { Gives (Run bundle.now work.old res.old) result res.new
         work.new }
 {
-    let mut tables = [0u8; 44704];
-    let answer = bundle::read(bundle, &mut tables);
-    let Copied::Done = answer else {
-        return refused(answer, work);
-    };
-    let need = sheet::need_of(&tables);
-    ran(desk::run(&tables[..need], work, res))
+    let mut tables = [0u8; LARGEST];
+    match bundle::read(bundle, &mut tables) {
+        Err(why) => refused(why, work),
+        Ok(()) => {
+            let need = sheet::need_of(&tables);
+            ran(desk::run(&tables[..need], work, res))
+        }
+    }
 }
 
 // The same of a script that the check passes, on a forest of A: 0 to 10, 12 or 13, with the units of both walks.
@@ -151,11 +155,12 @@ pub fn chukelowa_apply(bundle: &[u8], work: &mut [u8], res: &mut [u8]) -> Reply
     ensures { Gives (Apply bundle.now work.old res.old) result res.new
         work.new }
 {
-    let mut tables = [0u8; 44704];
-    let answer = bundle::read(bundle, &mut tables);
-    let Copied::Done = answer else {
-        return refused(answer, work);
-    };
-    let need = sheet::need_of(&tables);
-    applied(desk::apply(&tables[..need], work, res))
+    let mut tables = [0u8; LARGEST];
+    match bundle::read(bundle, &mut tables) {
+        Err(why) => refused(why, work),
+        Ok(()) => {
+            let need = sheet::need_of(&tables);
+            applied(desk::apply(&tables[..need], work, res))
+        }
+    }
 }

@@ -1,5 +1,5 @@
 -- What a query asks of a check and what it goes as: the walk of a row with the types of the variables as they stand. The scope finds its places by Shape's test.
-use Rattle.std.specs.Prelude.{ℕ, ◌+◌, ◌-◌, ◌≤◌, ◌<◌, ◌≡◌, refl, Bool, true, List, [], ◌∷◌, ◌++◌, length}
+use Rattle.std.specs.Prelude.{ℕ, ◌+◌, ◌-◌, ◌≤◌, ◌<◌, ◌≡◌, refl, Bool, true, List, [], ◌∷◌, ◌++◌, length, Result}
 use Rattle.std.proofs.Common.{arith, sym, ◌∙◌}
 use Rattle.std.proofs.Math.Path.{ap, subst}
 use Rattle.meaning.specs.Sheet.{script_of}
@@ -14,7 +14,8 @@ use Rattle.walk.specs.declared.Scope.{Scope}
 use Rattle.walk.specs.declared.Purse.{Purse}
 use Rattle.type_rows.specs.Grown.{ty_in}
 use Rattle.type_rows.specs.Finds.{top, Ready, Typed, Halted, Finds, types_of, finds_as, finds_tick, halt_tick, halt_depth, ready_after, ready_less, types_after, types_with}
-use Rattle.type_rows.specs.declared.Found.{Found}
+use Rattle.walk.specs.declared.Got.{Got}
+use Rattle.type_rows.specs.declared.Halt.{Halt}
 use Rattle.type_rows.specs.declared.Halt.TheVariants.{Fuel, Depth}
 
 -- ---- the walks
@@ -68,7 +69,7 @@ module _ (s work : List ℕ) (n : ℕ) (e : Scope) (d at : ℕ) where
   asked_is some is = ap (λ (k : ℕ). asked s work n e k at) (deeper d some) ∙ ap (λ (x : Query). tick (row_asked s work n e (d - 1) at x)) is
 
   -- by what it says, for one unit
-  pub ask_as : {form : Query} → (d ≡ 0 → ⊥) → query_at (script_of s) at ≡ form → {new : List ℕ} {left' : ℕ} {a : Found} (left : ℕ) → left' + 1 ≡ left
+  pub ask_as : {form : Query} → (d ≡ 0 → ⊥) → query_at (script_of s) at ≡ form → {new : List ℕ} {left' : ℕ} {a : Result Got Halt} (left : ℕ) → left' + 1 ≡ left
       → Finds (row_asked s work n e (d - 1) at form) s left' n work new a → Finds (asked s work n e d at) s left n work new a
   ask_as some is left p m = finds_as (asked_is some is) (finds_tick left p m)
 

@@ -3,6 +3,7 @@ use Prim.Native.Nat.{ℕ, ◌+◌, ◌≤◌, ◌<◌}
 use native.Mathlib.Omega.{arith}
 use mathlib.Core.Path.{◌≡◌, sym, ap, ◌∙◌, subst}
 use mathlib.Core.Bool.{true}
+use Rattle.std.specs.Prelude.{Result}
 use mathlib.Core.List.{List, [], ◌∷◌, ◌++◌}
 use borrow.Author.Tests.{eq-eqb, ne_eqb}
 use Rattle.meaning.specs.Tests.{in_table}
@@ -15,18 +16,17 @@ use Rattle.meaning.specs.Reply.{done, Loads}
 use Rattle.meaning.specs.Walk.{of_output, ret, ask}
 use Rattle.meaning.specs.Check.{nine, is_in, body, body_by, types_at}
 use Rattle.meaning.specs.Laws.Shaped.{few_types}
-use Rattle.meaning.specs.Laws.Tests.{in_table_lem}
 use Rattle.meaning.specs.Laws.Scoped.{main_in_scope, body_in_scope}
 use Rattle.meaning.specs.Theorems.Sound.Written.{loads_shapely}
-use Rattle.sheet.specs.Laid.{Laid, procedure_of}
+use Rattle.sheet.specs.Laid.{procedure_of}
 use Rattle.sheet.specs.declared.Procedure as sheet
-use Rattle.sheet.specs.declared.Layout.{Layout}
 use Rattle.walk.specs.Scope.{Fresh, More, Scoped, scoped_fresh, scoped_with}
 use Rattle.walk.specs.Fits.{shape_of, held}
 use Rattle.walk.specs.declared.Scope.{Scope}
+use Rattle.walk.specs.declared.Concern.TheVariants as concern
+use Rattle.walk.specs.declared.Got.{Got}
 use Rattle.type_rows.specs.Grown.{ty_in}
 use Rattle.type_rows.specs.Finds.{top, Room, Ready, Typed, Halted, Finds, types_of, finds_as, finds_then, halt_then, types_fresh, types_with}
-use Rattle.type_rows.specs.declared.Found.{Found}
 use Rattle.type_rows.specs.declared.Halt.{Halt}
 use Rattle.run_statement.specs.Edit.{fits}
 use Rattle.run_statement.proofs.Laws.{finds_none, finds_one, finds_two}
@@ -43,7 +43,7 @@ module _ {s work : List ℕ} {e : Scope} {used input left : ℕ} (ready : Ready 
   unfolding body_by
   body_halts h = halt_then (λ (x : Ty). ask (is_in x (declared (script_of s) output) nine of_output) (ret x)) h
 
-  pub body_finds : {mid : List ℕ} {root n left' : ℕ} {a : Found} → Typed (goes s work used e 200 at input) s left used work mid root n left' → LiesGives s mid n 0 0 root output root left' a → BodyGives s work mid e used at input output left a
+  pub body_finds : {mid : List ℕ} {root n left' : ℕ} {a : Result Got Halt} → Typed (goes s work used e 200 at input) s left used work mid root n left' → LiesGives s mid n concern.Output root output root left' a → BodyGives s work mid e used at input output left a
   unfolding body_by
   body_finds f m = finds_then (λ (x : Ty). ask (is_in x (declared (script_of s) output) nine of_output) (ret x)) f m
 
@@ -83,7 +83,7 @@ module _ {s work : List ℕ} {used left : ℕ} (loads : Loads s done) (room : Ro
     pub none_asks : one.first ≡ 0 → (Checks s work g used one.input left (fits s 200 g one.body)) × (Wanted s one.output)
     none_asks z = checks_of (scoped_fresh (top s + used) fresh) (finds_none s 200 c one.first one.second body_is in_scope fresh z)
 
-    pub none_gives : {new : List ℕ} {a : Found} → one.first ≡ 0 → BodyGives s work new g used one.body one.input one.output left a → ProcedureGives s work new used c left a
+    pub none_gives : {new : List ℕ} {a : Result Got Halt} → one.first ≡ 0 → BodyGives s work new g used one.body one.input one.output left a → ProcedureGives s work new used c left a
     unfolding types_at
     none_gives z m = finds_as (goes_as (types_of s work used g) (ap (types_at (script_of s)) (present_none one.first one.second (eq-eqb one.first 0 z)) ∙ sym no_types)) m
 
@@ -101,7 +101,7 @@ module _ {s work : List ℕ} {used left : ℕ} (loads : Loads s done) (room : Ro
       pub one_asks : one.second ≡ 0 → (Checks s work g1 used one.input left (fits s 200 g1 one.body)) × (Wanted s one.output)
       one_asks z = checks_of first_scoped (finds_one s 200 c one.first one.second body_is in_scope fresh m1 some z)
 
-      pub one_gives : {new : List ℕ} {a : Found} → one.second ≡ 0 → BodyGives s work new g1 used one.body one.input one.output left a → ProcedureGives s work new used c left a
+      pub one_gives : {new : List ℕ} {a : Result Got Halt} → one.second ≡ 0 → BodyGives s work new g1 used one.body one.input one.output left a → ProcedureGives s work new used c left a
       unfolding types_at
       one_gives z m = finds_as (goes_as (types_of s work used g1) (ap (types_at (script_of s)) (present_one one.first one.second (ne_eqb one.first 0 some) (eq-eqb one.second 0 z)) ∙ sym one_type)) m
 
@@ -119,50 +119,31 @@ module _ {s work : List ℕ} {used left : ℕ} (loads : Loads s done) (room : Ro
             let low = second_low in
             checks_of (scoped_with first_scoped (omega (arith, fresh.none, m1.count)) (omega arith) m2) (finds_two s 200 c one.first one.second body_is in_scope fresh m1 m2 some more)
 
-        pub two_gives : {new : List ℕ} {a : Found} → BodyGives s work new g2 used one.body one.input one.output left a → ProcedureGives s work new used c left a
+        pub two_gives : {new : List ℕ} {a : Result Got Halt} → BodyGives s work new g2 used one.body one.input one.output left a → ProcedureGives s work new used c left a
         unfolding types_at
         two_gives m = finds_as (goes_as (types_of s work used g2) (ap (types_at (script_of s)) (present_two one.first one.second (ne_eqb one.first 0 some) (ne_eqb one.second 0 more)) ∙ sym two_types)) m
 
 -- ---- every procedure, and main
 
--- the layout's count is the script's
-pub count_is : {s : List ℕ} {l : Layout} → Laid s l → l.procedures ≡ (script_of s).procedures
-unfolding script_of
-count_is laid = laid.procedures
-
-pub next_there : {s : List ℕ} {l : Layout} (c : ℕ) → Laid s l → c < l.procedures → in_table (script_of s).procedures (c + 1) ≡ true
-next_there {s} c laid h = in_table_lem (script_of s).procedures (c + 1) (omega arith) (omega (arith, count_is laid))
-
-module _ {s work : List ℕ} {used left : ℕ} (loads : Loads s done) (room : Room s work used left) {l : Layout} (laid : Laid s l) {g : Scope} (fresh : Fresh g) where
+module _ {s work : List ℕ} {used left : ℕ} (loads : Loads s done) (room : Room s work used left) {m a b : ℕ} (main_is : m ≡ (script_of s).main) (a_is : a ≡ (script_of s).a) (b_is : b ≡ (script_of s).b) {g : Scope}
+    (fresh : Fresh g) where
   no_shape : shape_of g ≡ []
   unfolding held
   no_shape = rw fresh.none
 
-  main_is : l.main ≡ (script_of s).main
-  unfolding script_of
-  main_is = laid.main
+  main_fits : fits s 200 g m ≡ true
+  main_fits = ap (λ (x : List Holds). statement_scoped (script_of s) 200 x m) no_shape ∙ ap (statement_scoped (script_of s) 200 []) main_is ∙ main_in_scope s (loads_shapely loads) 200
 
-  a_is : l.a ≡ (script_of s).a
-  unfolding script_of
-  a_is = laid.a
-
-  b_is : l.b ≡ (script_of s).b
-  unfolding script_of
-  b_is = laid.b
-
-  main_fits : fits s 200 g l.main ≡ true
-  main_fits = ap (λ (x : List Holds). statement_scoped (script_of s) 200 x l.main) no_shape ∙ ap (statement_scoped (script_of s) 200 []) main_is ∙ main_in_scope s (loads_shapely loads) 200
-
-  pub main_asks : (Checks s work g used l.a left (fits s 200 g l.main)) × (Wanted s l.b)
+  pub main_asks : (Checks s work g used a left (fits s 200 g m)) × (Wanted s b)
   main_asks =
       let low = a_low s (loads_shapely loads) in (
         record { loads = loads; ready = record { room = room; scoped = scoped_fresh (top s + used) fresh; focus = omega (arith, a_is) }; scope = main_fits },
         subst (Wanted s) (sym b_is) (b_wanted s (loads_shapely loads)),
       )
 
-  pub main_gives : {new : List ℕ} {a : Found} → BodyGives s work new g used l.main l.a l.b left a → Finds (main_walk (script_of s)) s left used work new a
-  main_gives m =
-      finds_as (sym (ap (λ (Γ : List Ty). body (script_of s) Γ l.main (ty_in s work used l.a) (declared (script_of s) l.b)) (types_fresh s work used fresh)
-      ∙ ap (λ (τ : Ty). body (script_of s) [] l.main τ (declared (script_of s) l.b)) (ap (ty_in s work used) a_is ∙ declared_is room.grows (script_of s).a (a_low s (loads_shapely loads)))
-      ∙ ap (λ (i : ℕ). body (script_of s) [] i (declared (script_of s) (script_of s).a) (declared (script_of s) l.b)) main_is
-      ∙ ap (λ (w : ℕ). body (script_of s) [] (script_of s).main (declared (script_of s) (script_of s).a) (declared (script_of s) w)) b_is)) m
+  pub main_gives : {new : List ℕ} {r : Result Got Halt} → BodyGives s work new g used m a b left r → Finds (main_walk (script_of s)) s left used work new r
+  main_gives k =
+      finds_as (sym (ap (λ (Γ : List Ty). body (script_of s) Γ m (ty_in s work used a) (declared (script_of s) b)) (types_fresh s work used fresh)
+      ∙ ap (λ (τ : Ty). body (script_of s) [] m τ (declared (script_of s) b)) (ap (ty_in s work used) a_is ∙ declared_is room.grows (script_of s).a (a_low s (loads_shapely loads)))
+      ∙ ap (λ (i : ℕ). body (script_of s) [] i (declared (script_of s) (script_of s).a) (declared (script_of s) b)) main_is
+      ∙ ap (λ (w : ℕ). body (script_of s) [] (script_of s).main (declared (script_of s) (script_of s).a) (declared (script_of s) w)) b_is)) k

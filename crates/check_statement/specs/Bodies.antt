@@ -3,7 +3,7 @@ use Prim.Native.Nat.{ℕ, zero, suc, ◌+◌, ◌*◌, ◌-◌, ◌≤◌, ◌<�
 use native.Mathlib.Omega.{arith}
 use Rattle.std.proofs.Math.Decide.{dec_le}
 use Rattle.std.proofs.Common.{add-one, sym, ap, ◌∙◌, subst}
-use Rattle.std.specs.Prelude.{◌≡◌, Bool, List, [], length}
+use Rattle.std.specs.Prelude.{◌≡◌, Bool, List, [], length, Result}
 use Rattle.std.proofs.Math.Path.{refl}
 use Rattle.std.proofs.Math.Bool.{true, false}
 use borrow.Author.Tests.{eqb-true, leb-true}
@@ -22,9 +22,9 @@ use Rattle.meaning.specs.Laws.Shaped.{cells, part_of, types_pass, types_say, nam
 use Rattle.meaning.specs.Laws.Walk.{Leads, leads_then}
 use Rattle.meaning.specs.Theorems.Sound.Written.{loads_shapely}
 use Rattle.walk.specs.declared.Scope.{Scope}
+use Rattle.walk.specs.declared.Got.{Got}
 use Rattle.type_rows.specs.Grown.{type_in, ty_in, Grows, in_sheet, in_none}
 use Rattle.type_rows.specs.Finds.{Judges, Room, Typed, Halted, Finds, types_of, finds_as, finds_leads, halt_leads, halt_then, room_after}
-use Rattle.type_rows.specs.declared.Found.{Found}
 use Rattle.type_rows.specs.declared.Halt.{Halt}
 use Rattle.type_rows.specs.Both.{halted_as}
 
@@ -36,10 +36,10 @@ procedure_walk S c = body S (declaration S c).parameters (S.procedure_row c).bod
 abbrev pub main_walk : Script → Asking Ty
 main_walk S = body S [] S.main (declared S S.a) (declared S S.b)
 
-abbrev pub BodyGives : List ℕ → List ℕ → List ℕ → Scope → ℕ → ℕ → ℕ → ℕ → ℕ → Found → Type 0
+abbrev pub BodyGives : List ℕ → List ℕ → List ℕ → Scope → ℕ → ℕ → ℕ → ℕ → ℕ → Result Got Halt → Type 0
 BodyGives s old new e n at input output left a = Finds (body (script_of s) (types_of s old n e) at (ty_in s old n input) (declared (script_of s) output)) s left n old new a
 
-abbrev pub ProcedureGives : List ℕ → List ℕ → List ℕ → ℕ → ℕ → ℕ → Found → Type 0
+abbrev pub ProcedureGives : List ℕ → List ℕ → List ℕ → ℕ → ℕ → ℕ → Result Got Halt → Type 0
 ProcedureGives s old new n c left a = Finds (procedure_walk (script_of s) c) s left n old new a
 
 -- ---- from the front: m procedures after the first c, and then what follows
@@ -108,7 +108,7 @@ module _ {s : List ℕ} {left : ℕ} {old work : List ℕ} {c n left' : ℕ} (g 
     }
 
   -- main is last
-  pub checking_done : {new : List ℕ} {a : Found} → (script_of s).procedures ≤ c → Finds (main_walk (script_of s)) s left' n work new a → Finds (check_walk (script_of s)) s left 0 old new a
+  pub checking_done : {new : List ℕ} {a : Result Got Halt} → (script_of s).procedures ≤ c → Finds (main_walk (script_of s)) s left' n work new a → Finds (check_walk (script_of s)) s left 0 old new a
   checking_done all m = finds_leads g.leads (omega arith) (omega (arith, g.paid)) (λ r i j. absurd (omega arith)) (finds_as (rest_none (script_of s) c all) m)
 
 -- ---- the sheet's types, and no row written

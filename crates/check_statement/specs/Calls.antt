@@ -1,5 +1,5 @@
 -- A call's procedure and a script's declared types, as Shape has seen them: each may be asked about; and what a call's arguments go as.
-use Rattle.std.specs.Prelude.{ℕ, ◌≤◌, ◌≡◌, Bool, cond, ◌||◌, List}
+use Rattle.std.specs.Prelude.{ℕ, ◌≤◌, ◌≡◌, Bool, cond, ◌||◌, List, Result}
 use Rattle.std.proofs.Common.{arith, sym, ap, ◌∙◌}
 use Rattle.std.proofs.Math.Path.{refl, subst}
 use Rattle.std.proofs.Math.Bool.{true, false}
@@ -17,14 +17,16 @@ use Rattle.meaning.specs.Check.{Asking, nine, is_in, infer, declaration, ask_all
 use Rattle.meaning.specs.Laws.Bools.{or_left, or_right, and_left, and_right}
 use Rattle.meaning.specs.Laws.Tests.{in_table_lem, table_low, table_high, some_at}
 use Rattle.meaning.specs.Laws.Shaped.{cells, roots, roots_pass, procedures_pass, procedures_say, statements_pass, statements_say}
-use Rattle.sheet.specs.Laid.{cells_of, procedure_of}
-use Rattle.sheet.specs.declared.Row.{Row}
+use Rattle.sheet.specs.Laid.{procedure_of}
 use Rattle.sheet.specs.declared.Procedure as sheet
 use Rattle.type_models.specs.Roots.{is_root}
+use Rattle.walk.specs.Concern.{concern_of}
 use Rattle.walk.specs.declared.Scope.{Scope}
+use Rattle.walk.specs.declared.Concern.{Concern}
+use Rattle.walk.specs.declared.Got.{Got}
 use Rattle.type_rows.specs.Grown.{ty_in}
 use Rattle.type_rows.specs.Finds.{Finds, types_of}
-use Rattle.type_rows.specs.declared.Found.{Found}
+use Rattle.type_rows.specs.declared.Halt.{Halt}
 
 -- ---- the walks, and what is given
 
@@ -32,12 +34,12 @@ abbrev pub arguments_go : List ℕ → List ℕ → ℕ → Scope → ℕ → �
 arguments_go s work n e d at c l =
     arguments (infer (script_of s) d (types_of s work n e)) l >>= λ x. ask_all (of_statement at) x (declaration (script_of s) c).parameters (ret (declaration (script_of s) c).output)
 
-abbrev pub ArgumentsGive : List ℕ → List ℕ → List ℕ → Scope → ℕ → ℕ → ℕ → ℕ → ℕ → ℕ → ℕ → Found → Type 0
+abbrev pub ArgumentsGive : List ℕ → List ℕ → List ℕ → Scope → ℕ → ℕ → ℕ → ℕ → ℕ → ℕ → ℕ → Result Got Halt → Type 0
 ArgumentsGive s old new e n d at c q r left a = Finds (arguments_go s old n e d at c (present q r)) s left n old new a
 
-abbrev pub LiesGives : List ℕ → List ℕ → ℕ → ℕ → ℕ → ℕ → ℕ → ℕ → ℕ → Found → Type 0
-LiesGives s work n row flag found wanted given left a =
-    Finds (ask (is_in (ty_in s work n found) (declared (script_of s) wanted) nine (record { row = row; flag = flag })) (ret (ty_in s work n given))) s left n work work a
+abbrev pub LiesGives : List ℕ → List ℕ → ℕ → Concern → ℕ → ℕ → ℕ → ℕ → Result Got Halt → Type 0
+LiesGives s work n at found wanted given left a =
+    Finds (ask (is_in (ty_in s work n found) (declared (script_of s) wanted) nine (concern_of at)) (ret (ty_in s work n given))) s left n work work a
 
 -- ---- what may be asked about
 
@@ -161,5 +163,6 @@ module _ (s : List ℕ) (e : shapely s ≡ true) where
           }
       go false h = absurd (some_kind ((script_of s).statement_row i).kind (ap (λ (x : Cells). x.kind) is) (rw h))
 
-  pub form_called : (at : ℕ) (c : Row) → cells_of c ≡ (script_of s).statement_row at → c.kind ≡ 14 → Called s c.p c.q c.r
-  form_called at c is k = called_of at c.p c.q c.r (sym is ∙ ap (λ (j : ℕ). record { kind = j; p = c.p; q = c.q; r = c.r }) k)
+  -- what a row says that is a call
+  pub form_called : (at : ℕ) {c : Cells} → c ≡ (script_of s).statement_row at → {p q r : ℕ} → c ≡ record { kind = 14; p = p; q = q; r = r } → Called s p q r
+  form_called at is {p} {q} {r} e = called_of at p q r (sym is ∙ e)

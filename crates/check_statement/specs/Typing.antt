@@ -1,21 +1,25 @@
 -- What a statement asks of a check and what it goes as: the walk of a row on the type at a row, with the types of the variables as they stand. The scope finds its places by Shape's test.
-use Rattle.std.specs.Prelude.{ℕ, ◌+◌, ◌-◌, ◌≤◌, ◌<◌, ◌≡◌, refl, Bool, true, List, [], ◌∷◌, ◌++◌, length}
+use Rattle.std.specs.Prelude.{ℕ, ◌+◌, ◌-◌, ◌≤◌, ◌<◌, ◌≡◌, refl, Bool, true, List, [], ◌∷◌, ◌++◌, length, Result, cond, eqb}
 use Rattle.std.proofs.Common.{arith, sym, ◌∙◌}
 use Rattle.std.proofs.Math.Path.{ap, subst}
 use Rattle.meaning.specs.Sheet.{script_of}
-use Rattle.meaning.specs.Kinds.{Statement, statement_at, test_form}
+use Rattle.meaning.specs.Kinds.{Statement, statement_at}
 use Rattle.meaning.specs.Types.{Ty, names_in, atom_of}
 use Rattle.meaning.specs.Reply.{done, Loads}
 use Rattle.meaning.specs.Run as meaning
 use Rattle.meaning.specs.Walk.{of_statement, tick, ◌>>=◌}
 use Rattle.meaning.specs.Check.{Asking, written, parts, tests, rename_type, statement_type, declaration, infer, typing, typing_by}
+use Rattle.sheet.specs.Forms.{test_said}
+use Rattle.sheet.specs.declared.forms.Test.{Test}
 use Rattle.walk.specs.Scope.{More, scoped_with}
 use Rattle.walk.specs.Fits.{deeper}
 use Rattle.walk.specs.declared.Scope.{Scope}
 use Rattle.walk.specs.declared.Purse.{Purse}
+use Rattle.walk.specs.declared.Got.{Got}
 use Rattle.type_rows.specs.Grown.{ty_in, Grows}
 use Rattle.type_rows.specs.Finds.{top, Ready, Typed, Halted, Finds, types_of, finds_as, finds_tick, halt_tick, halt_depth, ready_after, ready_less, type_after, types_after, types_with}
-use Rattle.type_rows.specs.declared.Found.{Found}
+use Rattle.type_rows.specs.declared.Atom.{Atom}
+use Rattle.type_rows.specs.declared.Halt.{Halt}
 use Rattle.type_rows.specs.declared.Halt.TheVariants.{Fuel, Depth}
 use Rattle.check_query.specs.Infer.{Asks}
 use Rattle.check_statement.specs.declared.Fate.{Fate}
@@ -39,19 +43,19 @@ either_goes s work n e d q r focus = goes s work n e d q focus >>= λ x. goes s 
 
 -- ---- what an evaluator gives: the rows before and after, the scope, the lent rows that count, the depth, the row or what it says, the focus, the purse
 
-abbrev pub Gives : List ℕ → List ℕ → List ℕ → Scope → ℕ → ℕ → ℕ → ℕ → ℕ → Found → Type 0
+abbrev pub Gives : List ℕ → List ℕ → List ℕ → Scope → ℕ → ℕ → ℕ → ℕ → ℕ → Result Got Halt → Type 0
 Gives s old new e n d at focus left a = Finds (goes s old n e d at focus) s left n old new a
 
-abbrev pub RowGives : List ℕ → List ℕ → List ℕ → Scope → ℕ → ℕ → ℕ → Statement → ℕ → ℕ → Found → Type 0
+abbrev pub RowGives : List ℕ → List ℕ → List ℕ → Scope → ℕ → ℕ → ℕ → Statement → ℕ → ℕ → Result Got Halt → Type 0
 RowGives s old new e n d at form focus left a = Finds (row_goes s old n e d at form focus) s left n old new a
 
-abbrev pub EitherGives : List ℕ → List ℕ → List ℕ → Scope → ℕ → ℕ → ℕ → ℕ → ℕ → ℕ → Found → Type 0
+abbrev pub EitherGives : List ℕ → List ℕ → List ℕ → Scope → ℕ → ℕ → ℕ → ℕ → ℕ → ℕ → Result Got Halt → Type 0
 EitherGives s old new e n d q r focus left a = Finds (either_goes s old n e d q r focus) s left n old new a
 
-abbrev pub PartsGive : List ℕ → List ℕ → List ℕ → Scope → ℕ → ℕ → ℕ → ℕ → ℕ → Found → Type 0
+abbrev pub PartsGive : List ℕ → List ℕ → List ℕ → Scope → ℕ → ℕ → ℕ → ℕ → ℕ → Result Got Halt → Type 0
 PartsGive s old new e n d body of left a = Finds (parts (body_goes s old n e d body) (ty_in s old n of)) s left n old new a
 
-abbrev pub RenameGives : List ℕ → List ℕ → List ℕ → ℕ → ℕ → ℕ → ℕ → ℕ → Found → Type 0
+abbrev pub RenameGives : List ℕ → List ℕ → List ℕ → ℕ → ℕ → ℕ → ℕ → ℕ → Result Got Halt → Type 0
 RenameGives s old new n at label focus left a = Finds (rename_type (of_statement at) label (atom_of (names_in (script_of s)) (ty_in s old n focus))) s left n old new a
 
 -- a test, of a focus among the rows that count
@@ -60,8 +64,21 @@ fate_of Misfit = meaning.misfit
 fate_of Matched = meaning.matched
 fate_of Passed = meaning.passed
 
-abbrev pub Tested : List ℕ → List ℕ → ℕ → ℕ → ℕ → Fate → Type 0
-Tested s work p q focus f = (n : ℕ) → Grows s work n → focus ≤ top s + n → fate_of f ≡ tests (test_form p q) (atom_of (names_in (script_of s)) (ty_in s work n focus))
+-- of what an atom acts as
+abbrev pub fate_told : Atom → Test → Fate
+fate_told Atom.Other t = Misfit
+fate_told Atom.Text Test.Text = Matched
+fate_told Atom.Text (Test.Label l) = Passed
+fate_told Atom.Text Test.Any = Matched
+fate_told Atom.Bool Test.Text = Passed
+fate_told Atom.Bool (Test.Label l) = Passed
+fate_told Atom.Bool Test.Any = Matched
+fate_told (Atom.Label n c) Test.Text = Passed
+fate_told (Atom.Label n c) (Test.Label l) = cond (eqb n l) Matched Passed
+fate_told (Atom.Label n c) Test.Any = Matched
+
+abbrev pub Tested : List ℕ → List ℕ → Test → ℕ → Fate → Type 0
+Tested s work t focus f = (n : ℕ) → Grows s work n → focus ≤ top s + n → fate_of f ≡ tests (test_said t) (atom_of (names_in (script_of s)) (ty_in s work n focus))
 
 -- ---- what it asks
 
@@ -100,7 +117,7 @@ module _ (s work : List ℕ) (n : ℕ) (e : Scope) (d at focus : ℕ) where
   goes_is some is = ap (λ (k : ℕ). goes s work n e k at focus) (deeper d some) ∙ ap (λ (x : Statement). tick (row_goes s work n e (d - 1) at x focus)) is
 
   -- by what it says, for one unit
-  pub goes_as : {form : Statement} → (d ≡ 0 → ⊥) → statement_at (script_of s) at ≡ form → {new : List ℕ} {left' : ℕ} {a : Found} (left : ℕ) → left' + 1 ≡ left
+  pub goes_as : {form : Statement} → (d ≡ 0 → ⊥) → statement_at (script_of s) at ≡ form → {new : List ℕ} {left' : ℕ} {a : Result Got Halt} (left : ℕ) → left' + 1 ≡ left
       → Finds (row_goes s work n e (d - 1) at form focus) s left' n work new a → Finds (goes s work n e d at focus) s left n work new a
   goes_as some is left p m = finds_as (goes_is some is) (finds_tick left p m)
 

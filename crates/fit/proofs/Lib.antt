@@ -2,5 +2,4 @@ pub mod Shaped
 pub mod Heads
 pub mod Step
 pub mod Walk
-pub mod Look
 pub mod Whole

@@ -1,45 +1,40 @@
 -- From the tables of the places to the walk's, and from the walk's answer to membership (Theorems/Places); then the answer of the whole question.
 use Prim.Native.Nat.{ℕ, ◌≤◌, ◌<◌}
 use mathlib.Core.Path.{◌≡◌, refl, sym, ◌∙◌}
-use mathlib.Core.Bool.{Bool, true, false, ◌&&◌, not, cond}
+use mathlib.Core.Bool.{Bool, true, false, ◌&&◌, cond}
 use mathlib.Core.List.{List}
+use Rattle.std.specs.Prelude.{Result, Ok, Err, IsErrAnd}
 use mathlib.Core.Logic.{inl, inr}
 use native.Mathlib.Omega.{arith}
 use lib.Dec.{eqb}
-use lib.ListN.{get_or, set, replicate, length-replicate}
-use borrow.Author.Tests.{eq-eqb, lt-ltb, not-true, not-false}
+use lib.ListN.{set, replicate, length-replicate}
+use borrow.Author.Tests.{eq-eqb, lt-ltb}
 use Rattle.meaning.specs.Tests.{in_table}
-use Rattle.meaning.specs.Sheet.{row3, script_of, grove_of, types_in_header}
+use Rattle.meaning.specs.Sheet.{script_of, grove_of}
 use Rattle.meaning.specs.Forest.{forest_of}
 use Rattle.meaning.specs.Shape.{shapely}
 use Rattle.meaning.specs.Places.{Model, is_declared}
-use Rattle.meaning.specs.Reply.{Answer, refused, shape, Loads, misshapen, Fitted, no_row, unsound}
+use Rattle.meaning.specs.Reply.{refused, shape, misshapen, Loads, Fitted, no_row, unsound}
 use Rattle.meaning.specs.Laws.Bools.{or_right, and_both, either}
 use Rattle.meaning.specs.Laws.Tests.{in_table_lem, table_low, table_high, some_at}
 use Rattle.meaning.specs.Laws.Wired.{Wired, wired_next, ends}
 use Rattle.meaning.specs.Theorems.Places.{places_say}
 use Rattle.type_barren.specs.Flags.{flag, flag_set}
 use Rattle.meaning.specs.Laws.Shaped.{kind_in, label_row, few_types}
-use Rattle.sheet.specs.Laid.{Laid, outside_low, outside_high}
-use Rattle.sheet.specs.declared.Layout.{Layout}
-use Rattle.type_places.specs.Sheets.{laid_free, laid_wires}
+use Rattle.sheet.specs.Laid.{outside_low, outside_high}
+use Rattle.sheet.specs.Table.{Table, types_in}
 use Rattle.type_ties.specs.Users.{told_free}
 use Rattle.type_places.specs.Tables.{model_of, set_of, Wires, Free}
 use Rattle.type_tables.specs.Points.{SheetPoints}
 use Rattle.type_models.specs.Roots.{is_root, Rooted}
 use Rattle.type_heads.specs.Heads.{acting_at}
-use Rattle.fit.specs.declared.Outcome.{Outcome}
-use Rattle.fit.specs.declared.Outcome.TheVariants as outcome
+use Rattle.type_ties.specs.declared.Unsound.{Unsound}
+use Rattle.type_ties.specs.Sound.{unsound_of}
+use Rattle.fit.specs.declared.Fault.{Fault as Found}
+use Rattle.fit.specs.declared.Refusal.{Refusal}
+use Rattle.fit.specs.Answers.{unfit_of, fit_of, unsound_as}
 use Rattle.fit.specs.Fitting.{Nexts, Finds, Walks, Told, IsOf}
 use Rattle.meaning.specs.Laws.Trees.{root_row}
-
-root_is : {s : List ℕ} {l : Layout} → Laid s l → l.root ≡ (grove_of s).root
-unfolding grove_of
-root_is laid = laid.root
-
-types_is : {s : List ℕ} {l : Layout} → Laid s l → l.types ≡ (script_of s).types
-unfolding script_of
-types_is laid = laid.types
 
 -- the sets of a table that is wired for a model are what may stand behind its places
 nexts : (t : List ℕ) (m : Model) → Wired (set_of t) m ends → Nexts t m
@@ -74,54 +69,57 @@ module _ (s : List ℕ) (e : shapely s ≡ true) where
     pub told_index : told < 513
     told_index = omega (arith, table_high (script_of s).types told t, few_types s e)
 
-    told_flag : flag (set (replicate 513 0) told 1) told ≡ true
-    told_flag = flag_set (replicate 513 0) told 1 (rw (length-replicate {A = ℕ} 513 0) told_index)
+    told_flag : flag (set (replicate 513 false) told true) told ≡ true
+    told_flag = flag_set (replicate 513 false) told true (rw (length-replicate {A = Bool} 513 false) told_index)
 
-    pub told_low : {l : Layout} → Laid s l → told ≤ l.types
-    told_low laid = omega (arith, table_high (script_of s).types told t, types_is laid)
+    told_low : told ≤ (script_of s).types
+    told_low = table_high (script_of s).types told t
 
-    pub told_alone : {l : Layout} → Laid s l → Free (row3 s l.types_at l.types) (set (replicate 513 0) told 1) told
-    told_alone laid = laid_free laid (set (replicate 513 0) told 1) told (told_free s e told (table_high (script_of s).types told t))
+    pub told_row : {types : Table} → types ≡ types_in s → told ≤ types.rows
+    unfolding script_of
+    told_row is = rw is told_low
 
-    pub told_wired : {l : Layout} {next : List ℕ} → Laid s l → Wires (row3 s l.types_at l.types) (set (replicate 513 0) told 1) next told → Wired (set_of next) (model_of s told) ends
-    told_wired laid w = (laid_wires laid w).wired told (table_low (script_of s).types told t) (omega arith) told_flag
+    pub told_alone : Free (script_of s).type_row (set (replicate 513 false) told true) told
+    told_alone = told_free s e told told_low
 
-    pub told_root : {first behind root : List ℕ} → SheetPoints s first behind → Rooted s root → get_or root told 0 ≡ 1 → Wired (set_of behind) (model_of s told) ends
-    told_root {root = root} P R h = P.roots told t (sym (R.at told told_index) ∙ eq-eqb (get_or root told 0) 1 h)
+    pub told_wired : {next : List ℕ} → Wires (script_of s).type_row (set (replicate 513 false) told true) next told → Wired (set_of next) (model_of s told) ends
+    told_wired w = w.wired told (table_low (script_of s).types told t) (omega arith) told_flag
+
+    pub told_root : {first behind : List ℕ} {root : List Bool} → SheetPoints s first behind → Rooted s root → flag root told ≡ true → Wired (set_of behind) (model_of s told) ends
+    told_root {root = root} P R h = P.roots told t (sym (R.at told told_index) ∙ h)
 
 -- the question, in the walk's words
-module _ {s : List ℕ} {l : Layout} {told : ℕ} {first behind class same : List ℕ} (T : Told s l told first behind class same) where
-  pub walked : {next : List ℕ} → Wired (set_of next) (model_of s told) ends → Walks s l.root told next
-  walked {next} w = record { is_tree = omega (arith, root_row s T.ready.shaped, root_is T.laid); is_type = T.is_type; nexts = nexts next (model_of s told) w }
+module _ {s : List ℕ} {told : ℕ} {first behind class same : List ℕ} (T : Told s told first behind class same) where
+  pub walked : {next : List ℕ} → Wired (set_of next) (model_of s told) ends → Walks s (grove_of s).root told next
+  walked {next} w = record { is_tree = root_row s T.ready.shaped; is_type = T.is_type; nexts = nexts next (model_of s told) w }
 
-  pub of_type : (f : Outcome) → Finds s 0 l.root told f → IsOf s told f
-  of_type outcome.Fits x = record { by = (places_say s T.ready.shaped told (forest_of (grove_of s))).0 (rw (root_is T.laid) at x.by) }
-  of_type (outcome.Fault y) x = record { by = rw (root_is T.laid) at x.by }
+  pub of_type : (f : Result Unit Found) → Finds s 0 (grove_of s).root told f → IsOf s told f
+  of_type (Ok u) x = record { by = (places_say s T.ready.shaped told (forest_of (grove_of s))).0 x.by }
+  of_type (Err f) x = record { by = x.by }
 
 -- ---- the answer
 
-pub is_shaped : (s : List ℕ) (b : Bool) → b ≡ shapely s → not b ≡ false → shapely s ≡ true
-is_shaped s b x y = sym x ∙ not-false b y
-
--- an answer by another name
-pub loads_as : {s : List ℕ} {a b : Answer} → a ≡ b → Loads s a → Loads s b
-loads_as e x = rw e at x
-
 module _ (s : List ℕ) (told : ℕ) where
-  pub not_shaped : (b : Bool) → b ≡ shapely s → not b ≡ true → Fitted s told (refused shape)
-  not_shaped b x y = elim (either (in_table (script_of s).types told)) [
-    | inl t ↦ unsound t (misshapen (sym x ∙ not-true b y))
+  pub not_shaped : shapely s ≡ false → Fitted s told (refused shape)
+  not_shaped x = elim (either (in_table (script_of s).types told)) [
+    | inl t ↦ unsound t (misshapen x)
     | inr t ↦ no_row t
   ]
 
   pub no_told : told ≡ 0 → Fitted s told (refused shape)
   no_told e = no_row (outside_low (script_of s).types told e)
 
-  module _ {l : Layout} (laid : Laid s l) where
-    pub past_told : l.types < told → Fitted s told (refused shape)
-    unfolding script_of
-    past_told h = no_row (outside_high (types_in_header s) told (omega (arith, laid.types)))
+  pub past_told : (script_of s).types < told → Fitted s told (refused shape)
+  past_told h = no_row (outside_high (script_of s).types told h)
 
-    pub is_told : (told ≡ 0 → ⊥) → told ≤ l.types → in_table (script_of s).types told ≡ true
-    unfolding script_of
-    is_told z h = in_table_lem (types_in_header s) told (omega arith) (omega (arith, laid.types))
+  pub is_told : {n : ℕ} → n ≡ (script_of s).types → (told ≡ 0 → ⊥) → told ≤ n → in_table (script_of s).types told ≡ true
+  is_told e z h = in_table_lem (script_of s).types told (omega arith) (omega arith)
+
+  pub not_sound : (u : Unsound) → in_table (script_of s).types told ≡ true → Loads s (refused (unsound_of u)) → Fitted s told (refused (unfit_of (unsound_as u)))
+  not_sound (Unsound.Barren x) t l = unsound t l
+  not_sound (Unsound.Tie y) t l = unsound t l
+
+  -- a refusal, handed on
+  pub refused_as : (r : Result Unit Refusal) (e : Refusal) → IsErrAnd r (λ y. y ≡ e) → Fitted s told (refused (unfit_of e)) → Fitted s told (fit_of r)
+  refused_as (Err y) e x f = rw x f
+  refused_as (Ok u) e x f = elim x [ ]

@@ -1,5 +1,5 @@
 -- What the walk over a forest says: that the trees at a row are of the model at a row, or their first fault; and what it asks of the tables that it goes by.
-use Rattle.std.specs.Prelude.{ℕ, ◌≤◌, ◌<◌, ◌≡◌, Bool, true, false, List, [], ◌∷◌, get_or}
+use Rattle.std.specs.Prelude.{ℕ, ◌≤◌, ◌<◌, ◌≡◌, Bool, true, false, List, [], ◌∷◌, get_or, Result, Ok, Err}
 use Rattle.meaning.specs.Tests.{in_table}
 use Rattle.meaning.specs.Sheet.{Cells, script_of, grove_of}
 use Rattle.meaning.specs.Forest.{forest_of}
@@ -14,14 +14,19 @@ use Rattle.type_places.specs.Tables.{model_of}
 use Rattle.type_tables.specs.Points.{SheetPoints}
 use Rattle.type_tables.specs.Lent.{Lent}
 use Rattle.type_heads.specs.Classes.{Classes}
-use Rattle.sheet.specs.Laid.{Laid}
-use Rattle.sheet.specs.declared.Layout.{Layout}
-use Rattle.fit.specs.declared.Outcome.{Outcome}
-use Rattle.fit.specs.declared.Outcome.TheVariants as outcome
+use Rattle.type_ties.specs.declared.Tables.{Tables}
+use Rattle.sheet.specs.declared.forms.Tree.{Tree}
+use Rattle.fit.specs.declared.Fault.{Fault as Found}
 
 -- a tree's head by number, as places have theirs (`head_number`): its label, 1024 a text, 1025 a bool; 1026 is no head
 abbrev pub tree_number : Cells → ℕ
 tree_number c = get_or (1026 ∷ 1024 ∷ 1025 ∷ 1025 ∷ c.p ∷ []) c.kind 1026
+
+-- the same, of what the tree's row says
+abbrev pub said_number : Tree → ℕ
+said_number (Tree.Text o n) = 1024
+said_number (Tree.Bool b) = 1025
+said_number (Tree.Node l q) = l
 
 -- a place of set k of the table t that is in the class of head h; 576 where there is none
 pub record Looked (t : List ℕ) (k h : ℕ) (class same : List ℕ) (r : ℕ) : Type 0 where
@@ -51,11 +56,11 @@ module _ (s : List ℕ) where
   Inside r k = GoesOn r (model_of s k) (start (model_of s k))
 
   -- what is found of the trees at row r against the model at row k
-  abbrev pub FindsBy : ℕ → ℕ → ℕ → Outcome → Type 0
-  FindsBy parent r k outcome.Fits = Inside r k
-  FindsBy parent r k (outcome.Fault x) = GoesWrong parent r (model_of s k) (start (model_of s k)) x
+  abbrev pub FindsBy : ℕ → ℕ → ℕ → Result Unit Found → Type 0
+  FindsBy parent r k (Ok _) = Inside r k
+  FindsBy parent r k (Err fault) = GoesWrong parent r (model_of s k) (start (model_of s k)) fault.row
 
-  pub record Finds (parent r k : ℕ) (f : Outcome) : Type 0 where
+  pub record Finds (parent r k : ℕ) (f : Result Unit Found) : Type 0 where
     pub by : FindsBy parent r k f
 
   -- a shaped sheet without ties, and its tables
@@ -64,6 +69,9 @@ module _ (s : List ℕ) where
     pub untied : Untied (script_of s)
     pub points : SheetPoints s first behind
     pub classes : Classes s class same
+
+  abbrev pub ReadyBy : Tables → Type 0
+  ReadyBy t = Ready t.first t.behind t.class t.same
 
   -- what a walk over the trees at row r asks: rows of the tables, and the sets of the model at row k
   pub record Walks (r k : ℕ) (next-sets : List ℕ) : Type 0 where
@@ -80,24 +88,22 @@ module _ (s : List ℕ) where
     pub fault : (x : ℕ) → GoesWrong parent r (model_of s k) (point (model_of s k) fresh a) x → GoesWrong parent r₀ (model_of s k) (start (model_of s k)) x
 
   -- the question: a row of its types besides
-  pub record Told (l : Layout) (told : ℕ) (first behind class same : List ℕ) : Type 0 where
-    pub laid : Laid s l
+  pub record Told (told : ℕ) (first behind class same : List ℕ) : Type 0 where
     pub is_type : in_table (script_of s).types told ≡ true
     pub ready : Ready first behind class same
 
-  -- what is found of the sheet's forest: it is of the type at row told, or its first fault
-  abbrev pub IsOfBy : ℕ → Outcome → Type 0
-  IsOfBy told outcome.Fits = Of (names_in (script_of s)) (declared (script_of s) told) (forest_of (grove_of s))
-  IsOfBy told (outcome.Fault x) = FaultOf s told x
+  abbrev pub ToldBy : ℕ → Tables → Type 0
+  ToldBy told t = Told told t.first t.behind t.class t.same
 
-  pub record IsOf (told : ℕ) (f : Outcome) : Type 0 where
+  -- what is found of the sheet's forest: it is of the type at row told, or its first fault
+  abbrev pub IsOfBy : ℕ → Result Unit Found → Type 0
+  IsOfBy told (Ok _) = Of (names_in (script_of s)) (declared (script_of s) told) (forest_of (grove_of s))
+  IsOfBy told (Err fault) = FaultOf s told fault.row
+
+  pub record IsOf (told : ℕ) (f : Result Unit Found) : Type 0 where
     pub by : IsOfBy told f
 
--- what is found, by another name
-pub found_as : {s : List ℕ} {told : ℕ} {f g : Outcome} → f ≡ g → IsOf s told f → IsOfBy s told g
-found_as e x = rw e at x.by
-
 -- the tables are as they were lent when 2 to 4 were judged
-pub told_lent : {s : List ℕ} {l : Layout} {told : ℕ} {first behind class same kin : List ℕ} → Laid s l → in_table (script_of s).types told ≡ true → Loads s done → Lent s first behind class same kin
-    → Told s l told first behind class same
-told_lent L t (sound e b u) T = record { laid = L; is_type = t; ready = record { shaped = e; untied = u; points = T.points; classes = T.classes } }
+pub told_lent : {s : List ℕ} {told : ℕ} {first behind class same kin : List ℕ} → in_table (script_of s).types told ≡ true → Loads s done → Lent s first behind class same kin
+    → Told s told first behind class same
+told_lent t (sound e b u) T = record { is_type = t; ready = record { shaped = e; untied = u; points = T.points; classes = T.classes } }

@@ -2,246 +2,169 @@
 // stack.
 #![tactic(auto)]
 
-ghost use Rattle.std.specs.Prelude.{◌≡◌, cond, ℕ, ◌≤◌, ◌<◌, get_or};
-ghost use Rattle.bits.specs.Sets.{in_set};
-ghost use Rattle.meaning.specs.Sheet.{grove_of};
+ghost use Rattle.std.specs.Prelude.{◌≡◌, ℕ, ◌≤◌, ◌<◌, get_or};
 ghost use Rattle.meaning.specs.Reply.{Fitted};
 ghost use Rattle.meaning.specs.Laws.Wired.{Wired, ends};
-ghost use Rattle.sheet.specs.Laid.{cells_of};
-ghost use Rattle.sheet.specs.Whole.{Whole};
-ghost use Rattle.type_heads.specs.Heads.{acting_at};
 ghost use Rattle.type_places.specs.Tables.{model_of, set_of};
 ghost use Rattle.fit.specs.Answers.{fit_of};
-ghost use Rattle.fit.specs.Fitting.{tree_number, Looked, Ready, Walks, Finds, Told, IsOf};
+ghost use Rattle.fit.specs.Fitting.{said_number, Looked, ReadyBy, ToldBy, Walks, Finds, IsOf};
+ghost use Rattle.fit.specs.declared.Refusal.TheVariants.{Unfit};
 
 use bits::{PLACES, ROWS, Sets, WORDS};
-use sheet::{Layout, Row};
+use sheet::Sheet;
+use sheet::forms::Tree;
 use type_heads::{HEADS, Leads};
-use type_ties::{Soundness, Tied};
+use type_tables::Tables;
+use type_ties::{Tied, Unsound};
 
-// Done, or the refusal: 2, 3 with the name, 4 with the row and its rival, 10 with the row of the first fault.
+// The row of the first fault of trees that don't fit.
 #[derive(Clone, Copy)]
-pub enum Answer {
-    Done,
+pub struct Fault {
+    pub row: usize,
+}
+
+// 2, 3 with the name, 4 with the row and its rival, 10 with the row of the first fault.
+#[derive(Clone, Copy)]
+pub enum Refusal {
     Shape,
     Barren(usize),
     Tie(Tied),
     Unfit(usize),
 }
 
-// What is found of trees: they fit, or the row of their first fault.
-#[derive(Clone, Copy)]
-pub enum Outcome {
-    Fits,
-    Fault(usize),
-}
+impl From<Unsound> for Refusal {
+    ghost use Rattle.fit.specs.Answers.{unsound_as};
 
-// The head of a tree by number: a label, 1024 text, 1025 bool.
-fn tree_head(c: Row) -> usize
-    ensures { result ≡ tree_number (cells_of c) }
-{
-    let kind = c.kind;
-    match kind {
-        1 => 1024,
-        2 | 3 => 1025,
-        4 => c.p,
-        0 | 5..=65535 => HEADS,
+    ghost from_gives = { λ u e. e ≡ unsound_as u };
+
+    fn from(u: Unsound) -> Refusal {
+        match u {
+            Unsound::Barren(name) => Refusal::Barren(name),
+            Unsound::Tie(tied) => Refusal::Tie(tied),
+        }
     }
 }
 
-// The place with head `h` that may stand at a point: where the model at row `a` begins, or behind place `a`; 576 where there is none.
-fn place(
-    h: usize,
-    fresh: bool,
-    a: usize,
-    first: &Sets,
-    next: &Sets,
-    class: &Leads,
-    same: &Sets,
-) -> usize
-    requires { (a ≤ 512) × ((i : ℕ) → i < 1026 → get_or class.now i 0 ≤ 512) }
-    ensures { Looked (cond fresh first.now next.now) a h class.now same.now result }
+impl From<Fault> for Refusal {
+    ghost from_gives = { λ f e. e ≡ Unfit f.row };
+
+    fn from(fault: Fault) -> Refusal {
+        Refusal::Unfit(fault.row)
+    }
+}
+
+// The head of a tree by number: a label, 1024 text, 1025 bool. No Option: each tree has one.
+fn tree_head(tree: Tree) -> usize
+    ensures { result ≡ said_number tree }
+{
+    match tree {
+        Tree::Text(_, _) => 1024,
+        Tree::Bool(_) => 1025,
+        Tree::Node(label, _) => label,
+    }
+}
+
+// The place with head `h` that may stand at a point, set `set` of `sets`; 576 where there is none. No Option: this is what
+// `bits::lowest_both` answers, and what `Looked` says.
+fn place(h: usize, sets: &Sets, set: usize, class: &Leads, same: &Sets) -> usize
+    requires { (set ≤ 512) × ((i : ℕ) → i < 1026 → get_or class.now i 0 ≤ 512) }
+    ensures { Looked sets.now set h class.now same.now result }
 {
     if HEADS <= h {
         return PLACES;
     }
-    let c = class[h] as usize;
-    if fresh {
-        return bits::lowest_both(first, a, same, c, 1);
-    }
-    bits::lowest_both(next, a, same, c, 1)
-}
-
-// Whether no tree need stand at a point: End is place 0.
-fn may_end(fresh: bool, a: usize, first: &Sets, next: &Sets) -> bool
-    requires { a ≤ 512 }
-    ensures { result ≡ in_set (cond fresh first.now next.now) a 0 }
-{
-    if fresh {
-        return bits::has(first, a, 0);
-    }
-    bits::has(next, a, 0)
-}
-
-// ---- rows by the header's words: no level of nesting holds a layout
-
-// Row `r` of the forest.
-fn tree_at(s: &[u8], r: usize) -> Row
-    requires { Whole s.now }
-    ensures { cells_of result ≡ (grove_of s.now).row r }
-{
-    sheet::forest_row(s, sheet::lay_out(s), r)
-}
-
-// The row of the content of place `a`.
-fn content_at(s: &[u8], a: usize) -> usize
-    requires { Whole s.now }
-    ensures { result ≡ (acting_at s.now a).q }
-{
-    type_heads::acting(s, sheet::lay_out(s), a).q
+    bits::lowest_both(sets, set, same, usize::from(class[h]), 1)
 }
 
 // The trees at row `r`, children of the tree at row `parent`, against the model at row `k`, whose next sets are in `next`: each tree
-// takes
-// the one place with its head, its children start that place's content.
+// takes the one place with its head, its children start that place's content. The walk stands at a point, set `set` of `sets`: where
+// the model begins, then behind a place.
+// Trees that stand side by side are rows that name each other: no index is counted.
 fn trees(
-    s: &[u8],
+    s: &Sheet,
     parent: usize,
     r: usize,
     k: usize,
-    first: &Sets,
     next: &Sets,
-    behind: &Sets,
-    class: &Leads,
-    same: &Sets,
-) -> Outcome
-    requires { Ready s.now first.now behind.now class.now same.now × Walks s.now r k next.now }
+    tables: &Tables,
+) -> Result<(), Fault>
+    requires { ReadyBy s.now tables.now × Walks s.now r k next.now }
     ensures { Finds s.now parent r k result }
 {
     let mut r = r;
-    let mut a = k;
-    let mut fresh = true;
+    let mut sets = &tables.first;
+    let mut set = k;
     while r != 0 {
-        let c = tree_at(s, r);
-        let b = place(tree_head(c), fresh, a, first, next, class, same);
+        let c = s.forest_row(r);
+        let tree = c.as_tree();
+        let b = place(tree_head(tree), sets, set, &tables.class, &tables.same);
         if PLACES <= b {
-            return Outcome::Fault(r);
+            return Err(Fault { row: r });
         }
-        if c.kind == 4 {
-            let q = content_at(s, b);
-            match trees(s, r, c.q, q, first, behind, behind, class, same) {
-                Outcome::Fits => {}
-                Outcome::Fault(x) => return Outcome::Fault(x),
-            }
+        if let Tree::Node(_, children) = tree {
+            let content = type_heads::acting(s, b).q;
+            trees(s, r, children, content, &tables.behind, tables)?;
         }
         r = c.r;
-        a = b;
-        fresh = false;
+        sets = next;
+        set = b;
     }
-    if may_end(fresh, a, first, next) {
-        return Outcome::Fits;
+    // No tree need stand at the point if End may, place 0.
+    if bits::has(sets, set, 0) {
+        return Ok(());
     }
-    Outcome::Fault(parent)
+    Err(Fault { row: parent })
 }
 
 // The sheet's forest against the type at row `told`, by the sheet's tables (`type_tables::judge`) and the next sets of that row's
-// model: those of a root are in `behind`.
-pub fn of_type(
-    s: &[u8],
-    l: Layout,
-    told: usize,
-    first: &Sets,
-    next: &Sets,
-    behind: &Sets,
-    class: &Leads,
-    same: &Sets,
-) -> Outcome
-    requires told { Told s.now l told first.now behind.now class.now same.now }
+// model: those of a root are in `tables.behind`.
+pub fn of_type(s: &Sheet, told: usize, next: &Sets, tables: &Tables) -> Result<(), Fault>
+    requires told { ToldBy s.now told tables.now }
     requires wired { Wired (set_of next.now) (model_of s.now told) ends }
     ensures { IsOf s.now told result }
 {
-    trees(s, 0, l.root, told, first, next, behind, class, same)
+    trees(s, 0, s.root(), told, next, tables)
 }
 
 // The same for a row inside a type: the next sets of its model alone are made first, over first sets without End.
-fn of_part(
-    s: &[u8],
-    l: Layout,
-    told: usize,
-    first: &Sets,
-    behind: &Sets,
-    class: &Leads,
-    same: &Sets,
-) -> Outcome
-    requires { Told s.now l told first.now behind.now class.now same.now }
+fn of_part(s: &Sheet, told: usize, tables: &Tables) -> Result<(), Fault>
+    requires { ToldBy s.now told tables.now }
     ensures { IsOf s.now told result }
 {
-    let mut top = [0u8; ROWS];
-    let mut null = [0u8; ROWS];
+    let mut top = [false; ROWS];
+    let mut null = [false; ROWS];
     let mut begin = [0u64; WORDS];
     let mut next = [0u64; WORDS];
-    top[told] = 1;
-    type_places::firsts(s, l.types_at, l.types, 0, &mut null, &mut begin);
-    type_places::behinds(
-        s, l.types_at, l.types, 0, told, &top, &null, &begin, &mut next,
-    );
-    of_type(s, l, told, first, &next, behind, class, same)
+    top[told] = true;
+    let types = s.type_table();
+    type_places::firsts(&types, 0, &mut null, &mut begin);
+    type_places::behinds(&types, 0, told, &top, &null, &begin, &mut next);
+    of_type(s, told, &next, tables)
 }
 
 // The same for any row: what stands behind a root's places is in the sheet's tables.
-fn of_row(
-    s: &[u8],
-    l: Layout,
-    told: usize,
-    first: &Sets,
-    behind: &Sets,
-    class: &Leads,
-    same: &Sets,
-) -> Outcome
-    requires { Told s.now l told first.now behind.now class.now same.now }
+fn of_row(s: &Sheet, told: usize, tables: &Tables) -> Result<(), Fault>
+    requires { ToldBy s.now told tables.now }
     ensures { IsOf s.now told result }
 {
-    let mut root = [0u8; ROWS];
-    type_models::roots(s, l, &mut root);
-    if root[told] == 1 {
-        return of_type(s, l, told, first, behind, behind, class, same);
+    let mut root = [false; ROWS];
+    type_models::roots(s, &mut root);
+    if root[told] {
+        return of_type(s, told, &tables.behind, tables);
     }
-    of_part(s, l, told, first, behind, class, same)
+    of_part(s, told, tables)
 }
 
 // Is the forest of the type at row `told`: Shape where there is no such row, then 2 to 4, then Unfit.
-pub fn fit(s: &[u8], told: usize) -> Answer
+pub fn fit(s: &[u8], told: usize) -> Result<(), Refusal>
     ensures { Fitted s.now told (fit_of result) }
 {
-    if !shape::shapely(s) {
-        return Answer::Shape;
+    let sheet = shape::shaped(s).ok_or(Refusal::Shape)?;
+    if told == 0 || sheet.types() < told {
+        return Err(Refusal::Shape);
     }
-    let l = sheet::lay_out(s);
-    if told == 0 {
-        return Answer::Shape;
-    }
-    if l.types < told {
-        return Answer::Shape;
-    }
-    let mut first = [0u64; WORDS];
-    let mut behind = [0u64; WORDS];
-    let mut class = [0u16; HEADS];
-    let mut same = [0u64; WORDS];
-    let mut kin = [0u16; PLACES];
-    match type_tables::judge(
-        s,
-        l,
-        &mut first,
-        &mut behind,
-        &mut class,
-        &mut same,
-        &mut kin,
-    ) {
-        Soundness::Barren(x) => Answer::Barren(x),
-        Soundness::Tie(t) => Answer::Tie(t),
-        Soundness::Done => match of_row(s, l, told, &first, &behind, &class, &same) {
-            Outcome::Fits => Answer::Done,
-            Outcome::Fault(row) => Answer::Unfit(row),
-        },
-    }
+    let mut tables = Tables::new();
+    type_tables::judge(&sheet, &mut tables)?;
+    of_row(&sheet, told, &tables)?;
+    Ok(())
 }

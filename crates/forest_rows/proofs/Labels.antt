@@ -1,9 +1,9 @@
 -- The trees with a label: what a row that is read adds to them.
 use Prim.Native.Nat.{ℕ, zero, suc, ◌≤◌, ◌<◌}
 use native.Mathlib.Omega.{arith}
-use mathlib.Core.Path.{◌≡◌, refl, sym, ap, ◌∙◌, subst}
+use mathlib.Core.Path.{◌≡◌, refl, sym, ap, ◌∙◌}
 use mathlib.Core.Bool.{Bool, true, false, false≢true, cond}
-use mathlib.Core.List.{List, [], ◌∷◌}
+use mathlib.Core.List.{[], ◌∷◌}
 use lib.Dec.{eqb}
 use lib.ListN.{get_or}
 use borrow.Author.Tests.{eq-eqb, ne_eqb, eqb-true, eqb-false}
@@ -12,10 +12,10 @@ use Rattle.meaning.specs.Sheet.{Cells}
 use Rattle.meaning.specs.Forest.{Tree, Forest, nil, cons, count, text_at, tree_form, forest_at}
 use Rattle.meaning.specs.Run.{kept}
 use Rattle.meaning.specs.Laws.Tests.{table_low, table_high}
-use Rattle.meaning.specs.Laws.Rows.{LowRows, SameRows, node_form}
-use Rattle.meaning.specs.Theorems.ReadBack.{lent_row}
-use Rattle.walk.specs.Meets.{forest_kept}
-use Rattle.forest_rows.specs.Rows.{Labelled, Judged, JudgedBy, Sought}
+use Rattle.meaning.specs.Laws.Rows.{LowRows, node_form}
+use Rattle.forest_rows.specs.Rows.{Labelled, Judged, Takes, chosen}
+use Rattle.forest_rows.specs.declared.Which.{Which}
+use Rattle.forest_rows.specs.declared.Which.TheVariants.{All, Labelled as LabelledBy}
 use Rattle.forest_rows.specs.Table.{read_forest, forest_none}
 
 -- ---- kinds 1 to 3
@@ -58,52 +58,50 @@ module _ (byte : ℕ → ℕ) (l : ℕ) (c : Cells) (f rest : Forest) where
           ∙ ap (λ (b : Bool). cond b (cons (Tree.node c.p f) (kept l rest)) (kept l rest)) (ne_eqb c.p l (λ i. h (record { node = e; label = i })))
 
 -- what the test says
-pub judged_no : (c : Cells) (l : ℕ) → in_table 3 c.kind ≡ true → Judged c l false
-judged_no c l e = record { by = λ h. false≢true (sym h.node ∙ e) }
-
-pub judged_by : (c : Cells) (l : ℕ) → in_table 3 c.kind ≡ false → Judged c l (eqb c.p l)
-judged_by c l e = go (eqb c.p l) refl
+pub judged_node : (c : Cells) (l : ℕ) → in_table 3 c.kind ≡ false → Judged c l (eqb c.p l)
+judged_node c l e = go (eqb c.p l) refl
   where
     go : (t : Bool) → eqb c.p l ≡ t → Judged c l t
     go true i = record { by = record { node = e; label = eqb-true c.p l i } }
     go false i = record { by = λ h. eqb-false c.p l i h.label }
 
-pub judged_true : {c : Cells} {l : ℕ} {t : Bool} → t ≡ true → Judged c l t → Labelled c l
-judged_true {c} {l} e j = subst (JudgedBy c l) e j.by
+pub judged_leaf : (c : Cells) (l : ℕ) → in_table 3 c.kind ≡ true → Judged c l false
+judged_leaf c l e = record { by = λ h. false≢true (sym h.node ∙ e) }
 
-pub judged_false : {c : Cells} {l : ℕ} {t : Bool} → t ≡ false → Judged c l t → Labelled c l → ⊥
-judged_false {c} {l} e j = subst (JudgedBy c l) e j.by
+-- ---- the trees meant
 
--- ---- by rows
+pub takes_all : (c : Cells) → Takes All c true
+takes_all c = record { by = λ byte f rest. refl }
 
-pub kept_none : (byte : ℕ → ℕ) (a : ℕ → Cells) (l r : ℕ) → r ≡ 0 → kept l (forest_at byte a r) ≡ nil
+pub takes_labelled : {c : Cells} {l : ℕ} (b : Bool) → Judged c l b → Takes (LabelledBy l) c b
+takes_labelled {c} {l} true j = record { by = λ byte f rest. kept_yes byte l c f rest j.by }
+takes_labelled {c} {l} false j = record { by = λ byte f rest. kept_no byte l c f rest j.by }
+
+chosen_nil : (which : Which) → chosen which nil ≡ nil
 unfolding kept
-kept_none byte a l r e = ap (kept l) (forest_none byte a r e)
+chosen_nil All = refl
+chosen_nil (LabelledBy l) = refl
 
-pub count_kept_none : (byte : ℕ → ℕ) (a : ℕ → Cells) (l r : ℕ) → r ≡ 0 → count (kept l (forest_at byte a r)) ≡ 0
-unfolding count
-count_kept_none byte a l r e = ap count (kept_none byte a l r e)
+module _ (byte : ℕ → ℕ) (a : ℕ → Cells) (which : Which) where
+  pub chosen_none : (r : ℕ) → r ≡ 0 → chosen which (forest_at byte a r) ≡ nil
+  chosen_none r e = ap (chosen which) (forest_none byte a r e) ∙ chosen_nil which
 
-module _ (byte : ℕ → ℕ) (a : ℕ → Cells) (n r l : ℕ) (c : Cells) (low : LowRows a n) (some : 0 < r) (within : r ≤ n) (is : c ≡ a r) where
-  pub pick_yes : Labelled c l → kept l (forest_at byte a r) ≡ cons (tree_form byte c (forest_at byte a c.q)) (kept l (forest_at byte a c.r))
-  pick_yes h = ap (kept l) (read_forest byte a n r c low some within is) ∙ kept_yes byte l c (forest_at byte a c.q) (forest_at byte a c.r) h
+  module _ (n r : ℕ) (c : Cells) (low : LowRows a n) (some : 0 < r) (within : r ≤ n) (is : c ≡ a r) {b : Bool} (t : Takes which c b) where
+    pub chosen_yes : b ≡ true → chosen which (forest_at byte a r) ≡ cons (tree_form byte c (forest_at byte a c.q)) (chosen which (forest_at byte a c.r))
+    chosen_yes e = ap (chosen which) (read_forest byte a n r c low some within is) ∙ t.by byte (forest_at byte a c.q) (forest_at byte a c.r)
+        ∙ ap (λ (x : Bool). cond x (cons (tree_form byte c (forest_at byte a c.q)) (chosen which (forest_at byte a c.r))) (chosen which (forest_at byte a c.r))) e
 
-  pub pick_count : Labelled c l → count (kept l (forest_at byte a r)) ≡ suc (count (kept l (forest_at byte a c.r)))
+    pub chosen_no : b ≡ false → chosen which (forest_at byte a r) ≡ chosen which (forest_at byte a c.r)
+    chosen_no e = ap (chosen which) (read_forest byte a n r c low some within is) ∙ t.by byte (forest_at byte a c.q) (forest_at byte a c.r)
+        ∙ ap (λ (x : Bool). cond x (cons (tree_form byte c (forest_at byte a c.q)) (chosen which (forest_at byte a c.r))) (chosen which (forest_at byte a c.r))) e
+
+    pub count_yes : b ≡ true → count (chosen which (forest_at byte a r)) ≡ suc (count (chosen which (forest_at byte a c.r)))
+    unfolding count
+    count_yes e = ap count (chosen_yes e)
+
+    pub count_no : b ≡ false → count (chosen which (forest_at byte a r)) ≡ count (chosen which (forest_at byte a c.r))
+    count_no e = ap count (chosen_no e)
+
+  pub count_chosen_none : (r : ℕ) → r ≡ 0 → count (chosen which (forest_at byte a r)) ≡ 0
   unfolding count
-  pick_count h = ap count (pick_yes h)
-
-  pub pick_no : (Labelled c l → ⊥) → kept l (forest_at byte a r) ≡ kept l (forest_at byte a c.r)
-  pick_no h = ap (kept l) (read_forest byte a n r c low some within is) ∙ kept_no byte l c (forest_at byte a c.q) (forest_at byte a c.r) h
-
--- what a search in later rows finds is so in the rows before
-pub sought_kept : (s t : List ℕ) (used l from r : ℕ) → LowRows (lent_row s) used → SameRows (lent_row s) (lent_row t) used → from ≤ used → Sought t l from r → Sought s l from r
-sought_kept s t used l from r low same h f =
-    let d = f.down in
-    record {
-      down = d;
-      value = λ byte.
-          let a = forest_kept byte used (lent_row s) (lent_row t) from low same h in
-          let b = forest_kept byte used (lent_row s) (lent_row t) r low same (omega arith) in
-          sym (ap (kept l) b) ∙ f.value byte ∙ ap (kept l) a;
-      found = λ p. subst (λ (c : Cells). Labelled c l) (sym (same r p (omega arith))) (f.found p);
-    }
+  count_chosen_none r e = ap count (chosen_none r e)

@@ -2,21 +2,21 @@
 use Prim.Native.Nat.{ℕ, ◌+◌, ◌≤◌, ◌<◌}
 use native.Mathlib.Omega.{arith}
 use mathlib.Core.Path.{◌≡◌, refl, sym, ap, ◌∙◌, subst}
-use mathlib.Core.Bool.{true, false}
+use mathlib.Core.Bool.{Bool, true, false}
 use mathlib.Core.List.{List}
 use Rattle.meaning.specs.Tests.{in_table}
 use Rattle.meaning.specs.Sheet.{Cells}
-use Rattle.meaning.specs.Forest.{Tree, Forest, cons, only, count, text_at, tree_form, forest_at}
-use Rattle.meaning.specs.Run.{nothing, many, a_text, a_bool, a_node, seen, kept, copied}
+use Rattle.meaning.specs.Forest.{Tree, Forest, cons, only, ◌⊕◌, count, text_at, tree_form, forest_at, bool_kind}
+use Rattle.meaning.specs.Run.{nothing, many, a_text, a_bool, a_node, seen, copied}
 use Rattle.meaning.specs.Walk.{ret, gives, Settles, done, Unasked}
-use Rattle.meaning.specs.Laws.Forest.{count-⊕}
+use Rattle.meaning.specs.Laws.Forest.{⊕-nil, count-⊕}
 use Rattle.meaning.specs.Laws.Rows.{node_form, LowRow, LowRows, forest_at_zero}
 use Rattle.meaning.specs.Laws.Walk.{leads_pay}
 use Rattle.meaning.specs.Theorems.ReadBack.{lent_row}
 use Rattle.walk.specs.Meets.{Roomy, Finished}
 use Rattle.walk.specs.Loop.{Links, gathered, keep_of, Turned}
-use Rattle.sheet.specs.Laid.{Words}
-use Rattle.forest_rows.specs.Rows.{Pushed, JoinAsks, Wrote, PickAsks, MakeAsks, made}
+use Rattle.forest_rows.specs.Rows.{Pushed, CopyAsks, Wrote, MakeAsks, made, chosen}
+use Rattle.forest_rows.specs.declared.Which.{Which}
 use Rattle.forest_rows.specs.Table.{read_next, read_child, read_forest, forest_none, push_low, push_forest}
 
 -- ---- what is written, its copies paid
@@ -38,9 +38,6 @@ wrote_done byte {s} {t} {used} {n} {k} {root} {used'} {left} {f} left' w isn e =
 
 -- a new tree
 module _ {s : List ℕ} {used k p q left : ℕ} (j : MakeAsks s used k p q left) where
-  pub make_words : Words (record { kind = k; p = p; q = q; r = 0 })
-  make_words = record { kind = j.small_kind; p = j.small_p; q = j.small_q; r = omega arith }
-
   pub make_done : {t : List ℕ} {row : ℕ} (left' : ℕ) → left' + 1 ≡ left → Pushed s t used (record { kind = k; p = p; q = q; r = 0 }) → row ≡ used + 1 → (byte : ℕ → ℕ) → Finished (made byte s k p q) byte left used s t row row left'
   make_done {t} {row} left' e w i byte =
       let c : Cells = record { kind = k; p = p; q = q; r = 0 } in
@@ -55,9 +52,6 @@ module _ {s : List ℕ} {used k p q left : ℕ} (j : MakeAsks s used k p q left)
       }) refl e
 
 -- a turn's result as a link
-pub keep_words : {s : List ℕ} {used left : ℕ} (got link : ℕ) → Roomy s used left → got ≤ used → link ≤ used → Words (record { kind = 4; p = 0; q = got; r = link })
-keep_words got link r hg hl = record { kind = omega arith; p = omega arith; q = omega (arith, r.small); r = omega (arith, r.small) }
-
 module _ {s : List ℕ} {used got link left n : ℕ} (left' : ℕ) (r : Roomy s used (left + 1)) (hg : got ≤ used) (hl : link ≤ used) (isn : (byte : ℕ → ℕ) → n ≡ count (forest_at byte (lent_row s) got)) (e : left' + n ≡ left) where
   pub keep_done : {t : List ℕ} {row : ℕ} → Pushed s t used (record { kind = 4; p = 0; q = got; r = link }) → row ≡ used + 1 → (byte : ℕ → ℕ) → Links (forest_at byte (lent_row s) link)
       → Turned (keep_of (forest_at byte (lent_row s) link) (forest_at byte (lent_row s) got)) byte left used (used + left + 1 + count (gathered (forest_at byte (lent_row s) link))) s t row row left'
@@ -80,11 +74,13 @@ module _ {s : List ℕ} {used got link left n : ℕ} (left' : ℕ) (r : Roomy s 
       }
 
 -- what the copies ask
-pub front_asks : {s : List ℕ} {used a b left n : ℕ} (left' : ℕ) → Roomy s used left → a ≤ used → b ≤ used → ((byte : ℕ → ℕ) → n ≡ count (forest_at byte (lent_row s) a)) → left' + n ≡ left → JoinAsks s used a b
-front_asks left' r ha hb isn e = record { byte = λ i. 0; low = r.low; first = ha; second = hb; room = omega (arith, r.room, isn (λ i. 0)); small = omega (arith, r.small, isn (λ i. 0)) }
+pub copy_asks : {s : List ℕ} {used a b left n : ℕ} {which : Which} (left' : ℕ) → Roomy s used left → a ≤ used → b ≤ used → ((byte : ℕ → ℕ) → n ≡ count (chosen which (forest_at byte (lent_row s) a))) → left' + n ≡ left → CopyAsks s used which a b
+copy_asks left' r ha hb isn e = record { byte = λ i. 0; low = r.low; first = ha; second = hb; room = omega (arith, r.room, isn (λ i. 0)); small = omega (arith, r.small, isn (λ i. 0)) }
 
-pub picked_asks : {s : List ℕ} {used l a left n : ℕ} (left' : ℕ) → Roomy s used left → a ≤ used → ((byte : ℕ → ℕ) → n ≡ count (kept l (forest_at byte (lent_row s) a))) → left' + n ≡ left → PickAsks s used l a
-picked_asks left' r ha isn e = record { byte = λ i. 0; low = r.low; first = ha; room = omega (arith, r.room, isn (λ i. 0)); small = omega (arith, r.small, isn (λ i. 0)) }
+-- in front of nothing
+pub wrote_alone : {byte : ℕ → ℕ} {s t : List ℕ} {used n root used' : ℕ} {f : Forest} → Wrote byte s t used (f ⊕ forest_at byte (lent_row s) 0) n root used' → Wrote byte s t used f n root used'
+wrote_alone {byte} {s} {t} {used} {n} {root} {used'} {f} w =
+    subst (λ (x : Forest). Wrote byte s t used x n root used') (ap (λ (x : Forest). f ⊕ x) (forest_at_zero byte (lent_row s)) ∙ ⊕-nil f) w
 
 -- ---- what a forest is seen as
 
@@ -117,13 +113,10 @@ module _ (byte : ℕ → ℕ) (a : ℕ → Cells) (r : ℕ) (c : Cells) (low : L
     unfolding seen
     see_text e = see_kind 1 e
 
-    pub see_false : c.kind ≡ 2 → seen (forest_at byte a r) ≡ a_bool false
+    pub see_bool : (b : Bool) → c.kind ≡ bool_kind b → seen (forest_at byte a r) ≡ a_bool b
     unfolding seen
-    see_false e = see_kind 2 e
-
-    pub see_true : c.kind ≡ 3 → seen (forest_at byte a r) ≡ a_bool true
-    unfolding seen
-    see_true e = see_kind 3 e
+    see_bool true e = see_kind 3 e
+    see_bool false e = see_kind 2 e
 
     pub see_node : in_table 3 c.kind ≡ false → seen (forest_at byte a r) ≡ a_node c.p (forest_at byte a c.q)
     unfolding seen

@@ -1,3 +1,3 @@
 pub mod Labels
-pub mod Copy
+pub mod Copies
 pub mod Leaves

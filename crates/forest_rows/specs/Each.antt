@@ -1,5 +1,5 @@
 -- The loop of for and iter over lent rows, for any body: how far it is (`Looping`), what a turn asks and gives, and that the whole is meaning's `each`.
-use Rattle.std.specs.Prelude.{ℕ, ◌+◌, ◌≤◌, ◌<◌, ◌≡◌, refl, List, length}
+use Rattle.std.specs.Prelude.{ℕ, ◌+◌, ◌≤◌, ◌<◌, ◌≡◌, refl, List, length, Result, Ok, Err}
 use Rattle.std.proofs.Common.{arith, ◌∙◌}
 use Rattle.std.proofs.Math.Path.{sym, ap, subst}
 use Rattle.meaning.specs.Sheet.{Cells}
@@ -13,8 +13,7 @@ use Rattle.walk.specs.Scope.{Scoped, scoped_more}
 use Rattle.walk.specs.Meets.{Roomy, Ready, Finished, Stopped, stop_leads, stop_then, same_trans, forest_kept}
 use Rattle.walk.specs.Loop.{Links, gathered, alone, keep_of, turn_of, loop_of, loop_is, Turned, TurnsBy, Turns}
 use Rattle.walk.specs.declared.Scope.{Scope}
-use Rattle.walk.specs.declared.Answer.{Answer}
-use Rattle.walk.specs.declared.Answer.TheVariants.{Done, Not}
+use Rattle.walk.specs.declared.Got.{Got}
 use Rattle.walk.specs.declared.Stop.{Stop}
 use Rattle.forest_rows.specs.Rows.{Pushed, GatherAsks, Gathered}
 use Rattle.forest_rows.specs.Table.{read_next, read_child, read_forest, forest_none, push_low, push_forest}
@@ -175,11 +174,11 @@ module _ (byte : ℕ → ℕ) {s t : List ℕ} {used r left row : ℕ} (left' : 
             leads_tick Unasked (b (alone (forest_at byte (lent_row s) r)) >>= keep_of (forest_at byte (lent_row s) link)) left left' pd v m
             (leads_then Unasked (keep_of (forest_at byte (lent_row s) link)) body v m kept)
 
-        one_by : (u : List ℕ) (a : Answer) → TurnsBy (keep_of (forest_at byte (lent_row t') link) (forest_at byte (lent_row t') root)) byte left'' n
+        one_by : (u : List ℕ) (a : Result Got Stop) → TurnsBy (keep_of (forest_at byte (lent_row t') link) (forest_at byte (lent_row t') root)) byte left'' n
             (n + left'' + 1 + count (gathered (forest_at byte (lent_row t') link))) t' u a
             → TurnsBy (turn_of b (alone (forest_at byte (lent_row s) r)) (forest_at byte (lent_row s) link)) byte left used (used + left + count (gathered (forest_at byte (lent_row s) link))) s u a
-        one_by u (Done root' n' p) m = record {
-          settles = one_leads (gives (forest_at byte (lent_row u) root')) p.left m.settles;
+        one_by u (Ok g) m = record {
+          settles = one_leads (gives (forest_at byte (lent_row u) g.root)) g.left.purse.left m.settles;
           inside = m.inside;
           grown = omega (arith, m.grown, fin.grown);
           paid = omega (arith, m.paid, ap (λ (l : Forest). count (gathered l)) link_kept);
@@ -187,9 +186,9 @@ module _ (byte : ℕ → ℕ) {s t : List ℕ} {used r left row : ℕ} (left' : 
           same = same_trans used n (lent_row s) (lent_row t') (lent_row u) (omega (arith, fin.grown)) one_same m.same;
           links = m.links;
         }
-        one_by u (Not why) m = stop_leads one_leads m
+        one_by u (Err why) m = stop_leads one_leads m
 
-        pub one_more : {u : List ℕ} {a : Answer} → Turns (keep_of (forest_at byte (lent_row t') link) (forest_at byte (lent_row t') root)) byte left'' n
+        pub one_more : {u : List ℕ} {a : Result Got Stop} → Turns (keep_of (forest_at byte (lent_row t') link) (forest_at byte (lent_row t') root)) byte left'' n
             (n + left'' + 1 + count (gathered (forest_at byte (lent_row t') link))) t' u a
             → Turns (turn_of b (alone (forest_at byte (lent_row s) r)) (forest_at byte (lent_row s) link)) byte left used (used + left + count (gathered (forest_at byte (lent_row s) link))) s u a
         one_more {u} {a} m = record { by = one_by u a m.by }

@@ -1,15 +1,17 @@
 -- What the functions over lent rows ask and give. The pool that a forest's texts lie in is any (`byte`).
-use Rattle.std.specs.Prelude.{ℕ, ◌+◌, ◌*◌, ◌≤◌, ◌<◌, ◌≡◌, true, false, List, length}
+use Rattle.std.specs.Prelude.{ℕ, ◌+◌, ◌*◌, ◌≤◌, ◌<◌, ◌≡◌, true, false, eqb, List, length, Option, Some, None}
 use Rattle.std.proofs.Math.Bool as bool
 use Rattle.meaning.specs.Tests.{in_table}
 use Rattle.meaning.specs.Sheet.{Cells}
-use Rattle.meaning.specs.Forest.{Forest, only, ◌⊕◌, count, text_at, tree_form, forest_at}
+use Rattle.meaning.specs.Forest.{Forest, cons, only, ◌⊕◌, count, text_at, tree_form, forest_at}
 use Rattle.meaning.specs.Run.{seen, nothing, many, a_text, a_bool, a_node, kept, copied}
 use Rattle.meaning.specs.Walk.{Quiet}
 use Rattle.meaning.specs.Laws.Rows.{LowRows, SameRows}
 use Rattle.meaning.specs.Theorems.ReadBack.{lent_row}
 use Rattle.walk.specs.Meets.{Roomy}
 use Rattle.walk.specs.Loop.{Links, gathered}
+use Rattle.forest_rows.specs.declared.Which.{Which}
+use Rattle.forest_rows.specs.declared.Which.TheVariants.{All, Labelled as LabelledBy}
 use Rattle.forest_rows.specs.declared.Seen.{Seen}
 use Rattle.forest_rows.specs.declared.Seen.TheVariants.{Nothing, Many, Text, Bool, Node}
 
@@ -25,14 +27,27 @@ pub record Pushed (s t : List ℕ) (n : ℕ) (c : Cells) : Type 0 where
   pub row : lent_row t (n + 1) ≡ c
   pub above : (r : ℕ) → n + 1 < r → lent_row s r ≡ lent_row t r
 
--- the trees at a, copied, in front of the forest at b, a row for each
-pub record JoinAsks (s : List ℕ) (used a b : ℕ) : Type 0 where
+-- which trees are meant
+abbrev pub chosen : Which → Forest → Forest
+chosen All f = f
+chosen (LabelledBy l) f = kept l f
+
+-- what the test of a row says of the trees meant
+pub record Takes (which : Which) (c : Cells) (b : bool.Bool) : Type 0 where
+  pub by : (byte : ℕ → ℕ) (f rest : Forest) → chosen which (cons (tree_form byte c f) rest) ≡ bool.cond b (cons (tree_form byte c f) (chosen which rest)) (chosen which rest)
+
+-- such trees at a, copied, in front of the forest at b, a row for each
+pub record CopyAsks (s : List ℕ) (used : ℕ) (which : Which) (a b : ℕ) : Type 0 where
   pub byte : ℕ → ℕ
   pub low : LowRows (lent_row s) used
   pub first : a ≤ used
   pub second : b ≤ used
-  pub room : 8 * (used + count (forest_at byte (lent_row s) a)) ≤ length s
-  pub small : used + count (forest_at byte (lent_row s) a) < 65536
+  pub room : 8 * (used + count (chosen which (forest_at byte (lent_row s) a))) ≤ length s
+  pub small : used + count (chosen which (forest_at byte (lent_row s) a)) < 65536
+
+-- the row of what is written from row used + 1 up to row `to`, in front of the forest at b
+abbrev pub link : ℕ → ℕ → ℕ → ℕ
+link used b to = bool.cond (eqb to used) b to
 
 -- what was to be written stands at the root, a row for each of its n trees
 pub record Wrote (byte : ℕ → ℕ) (s t : List ℕ) (used : ℕ) (f : Forest) (n root used' : ℕ) : Type 0 where
@@ -42,8 +57,9 @@ pub record Wrote (byte : ℕ → ℕ) (s t : List ℕ) (used : ℕ) (f : Forest)
   pub low : LowRows (lent_row t) used'
   pub same : SameRows (lent_row s) (lent_row t) used
 
-abbrev pub Joined : (ℕ → ℕ) → List ℕ → List ℕ → ℕ → ℕ → ℕ → ℕ → ℕ → Type 0
-Joined byte s t used a b root used' = Wrote byte s t used (forest_at byte (lent_row s) a ⊕ forest_at byte (lent_row s) b) (count (forest_at byte (lent_row s) a)) root used'
+abbrev pub Copied : (ℕ → ℕ) → List ℕ → List ℕ → ℕ → Which → ℕ → ℕ → ℕ → ℕ → Type 0
+Copied byte s t used which a b root used' =
+    Wrote byte s t used (chosen which (forest_at byte (lent_row s) a) ⊕ forest_at byte (lent_row s) b) (count (chosen which (forest_at byte (lent_row s) a))) root used'
 
 -- what the links hold, as one forest
 pub record GatherAsks (s : List ℕ) (used link : ℕ) : Type 0 where
@@ -57,17 +73,6 @@ pub record GatherAsks (s : List ℕ) (used link : ℕ) : Type 0 where
 abbrev pub Gathered : (ℕ → ℕ) → List ℕ → List ℕ → ℕ → ℕ → ℕ → ℕ → Type 0
 Gathered byte s t used link root used' = Wrote byte s t used (gathered (forest_at byte (lent_row s) link)) (count (gathered (forest_at byte (lent_row s) link))) root used'
 
--- the trees with a label
-pub record PickAsks (s : List ℕ) (used l a : ℕ) : Type 0 where
-  pub byte : ℕ → ℕ
-  pub low : LowRows (lent_row s) used
-  pub first : a ≤ used
-  pub room : 8 * (used + count (kept l (forest_at byte (lent_row s) a))) ≤ length s
-  pub small : used + count (kept l (forest_at byte (lent_row s) a)) < 65536
-
-abbrev pub Picked : (ℕ → ℕ) → List ℕ → List ℕ → ℕ → ℕ → ℕ → ℕ → ℕ → Type 0
-Picked byte s t used l a root used' = Wrote byte s t used (kept l (forest_at byte (lent_row s) a)) (count (kept l (forest_at byte (lent_row s) a))) root used'
-
 -- the row r is a tree with the label l
 pub record Labelled (c : Cells) (l : ℕ) : Type 0 where
   pub node : in_table 3 c.kind ≡ false
@@ -80,12 +85,6 @@ JudgedBy c l false = Labelled c l → ⊥
 pub record Judged (c : Cells) (l : ℕ) (b : bool.Bool) : Type 0 where
   pub by : JudgedBy c l b
 
--- the first such row from `from` on, 0 if there is none
-pub record Sought (s : List ℕ) (l from r : ℕ) : Type 0 where
-  pub down : r ≤ from
-  pub value : (byte : ℕ → ℕ) → kept l (forest_at byte (lent_row s) r) ≡ kept l (forest_at byte (lent_row s) from)
-  pub found : 0 < r → Labelled (lent_row s r) l
-
 -- what a forest is, where a rule looks at it
 abbrev pub SeesBy : (ℕ → ℕ) → List ℕ → ℕ → Seen → Type 0
 SeesBy byte s root Nothing = seen (forest_at byte (lent_row s) root) ≡ nothing
@@ -96,6 +95,28 @@ SeesBy byte s root (Node l c) = record { is : seen (forest_at byte (lent_row s) 
 
 pub record Sees (byte : ℕ → ℕ) (s : List ℕ) (root : ℕ) (a : Seen) : Type 0 where
   pub by : SeesBy byte s root a
+
+-- one bool, one text, one labelled tree
+abbrev pub bool_of : Seen → Option bool.Bool
+bool_of Nothing = None
+bool_of Many = None
+bool_of (Text o n) = None
+bool_of (Bool b) = Some b
+bool_of (Node l c) = None
+
+abbrev pub text_of : Seen → Option (ℕ × ℕ)
+text_of Nothing = None
+text_of Many = None
+text_of (Text o n) = Some (o, n)
+text_of (Bool b) = None
+text_of (Node l c) = None
+
+abbrev pub node_of : Seen → Option (ℕ × ℕ)
+node_of Nothing = None
+node_of Many = None
+node_of (Text o n) = None
+node_of (Bool b) = None
+node_of (Node l c) = Some (l, c)
 
 -- a new tree: kind and words, its child a row in use unless it is a text or a bool
 pub record MakeAsks (s : List ℕ) (used k p q left : ℕ) : Type 0 where

@@ -1,18 +1,20 @@
 -- Laws of lent rows: what a word put reads back as, what a written row says, and what the forest at a row that is read is.
-use Rattle.std.specs.Prelude.{ℕ, zero, suc, ◌+◌, ◌*◌, ◌-◌, ◌/◌, ◌%◌, ◌≤◌, ◌<◌, ◌≡◌, false, List, length, get_or, set}
+use Rattle.std.specs.Prelude.{ℕ, zero, suc, ◌+◌, ◌*◌, ◌-◌, ◌/◌, ◌%◌, ◌≤◌, ◌<◌, ◌≡◌, Bool, true, false, List, [], ◌∷◌, length, get_or, set, refl}
 use Rattle.std.proofs.Common.{arith, sym, ◌∙◌, subst, length-set, get_or-set_same, get_or-set_other}
 use Rattle.std.proofs.Math.Decide.{dec_le}
 use Rattle.std.proofs.Math.Path.{ap}
 use Rattle.meaning.specs.Tests.{in_table}
 use Rattle.meaning.specs.Words.{word_at}
 use Rattle.meaning.specs.Sheet.{Cells}
-use Rattle.meaning.specs.Forest.{Tree, nil, cons, count, tree_form, forest_at}
+use Rattle.meaning.specs.Forest.{Tree, nil, cons, count, tree_form, forest_at, bool_kind}
 use Rattle.meaning.specs.Laws.Rows.{LowRow, LowRows, SameRows, tree_same, forest_at_zero, forest_at_suc}
 use Rattle.meaning.specs.Laws.Shaped.{cells}
 use Rattle.meaning.specs.Theorems.ReadBack.{lent_row}
 use Rattle.words.specs.Puts.{put_word}
 use Rattle.walk.specs.Meets.{low_same, forest_kept}
-use Rattle.sheet.specs.Laid.{Words}
+use Rattle.sheet.specs.Laid.{Words, outside_high}
+use Rattle.sheet.specs.Forms.{tree_said}
+use Rattle.sheet.specs.declared.forms.Tree.{Tree as Said}
 use Rattle.forest_rows.specs.Rows.{Pushed}
 
 -- ---- words
@@ -128,3 +130,60 @@ module _ (a b : ℕ → Cells) (n : ℕ) (c : Cells) (low : LowRows a n) (same :
       let tree = tree_same byte c (forest_at byte b c.q) (forest_at byte a c.q) (λ h. let child = lower.child h in forest_kept byte n a b c.q low same (omega arith)) in
       let rest = forest_kept byte n a b c.r low same (omega arith) in
       e ∙ ap (λ (t : Tree). cons t (forest_at byte b c.r)) tree ∙ ap (cons (tree_form byte c (forest_at byte a c.q))) rest
+
+-- ---- what a row's tree says of its kind
+
+bool_eq : {a b : Bool} → Said.Bool a ≡ Said.Bool b → a ≡ b
+bool_eq e = cc
+
+module _ (c : Cells) where
+  said : ℕ → Said
+  said k = get_or (Said.Node c.p c.q ∷ Said.Text c.p c.q ∷ Said.Bool false ∷ Said.Bool true ∷ []) k (Said.Node c.p c.q)
+
+  node_by : (k : ℕ) {l q : ℕ} → Said.Node l q ≡ said k → (in_table 3 k ≡ false) × (l ≡ c.p) × (q ≡ c.q)
+  unfolding said
+  node_by zero e = (refl, cc, cc)
+  node_by (suc zero) e = cc
+  node_by (suc (suc zero)) e = cc
+  node_by (suc (suc (suc zero))) e = cc
+  node_by (suc (suc (suc (suc k)))) e = (outside_high 3 (suc (suc (suc (suc k)))) (omega arith), cc, cc)
+
+  text_by : (k : ℕ) {o n : ℕ} → Said.Text o n ≡ said k → (k ≡ 1) × (o ≡ c.p) × (n ≡ c.q)
+  unfolding said
+  text_by zero e = cc
+  text_by (suc zero) e = (refl, cc, cc)
+  text_by (suc (suc zero)) e = cc
+  text_by (suc (suc (suc zero))) e = cc
+  text_by (suc (suc (suc (suc k)))) e = cc
+
+  bool_by : (k : ℕ) {b : Bool} → Said.Bool b ≡ said k → k ≡ bool_kind b
+  unfolding said
+  bool_by zero e = cc
+  bool_by (suc zero) e = cc
+  bool_by (suc (suc zero)) e = sym (ap bool_kind (bool_eq e))
+  bool_by (suc (suc (suc zero))) e = sym (ap bool_kind (bool_eq e))
+  bool_by (suc (suc (suc (suc k)))) e = cc
+
+  leaf_by : (k : ℕ) → ((l q : ℕ) → said k ≡ Said.Node l q → ⊥) → in_table 3 k ≡ true
+  unfolding said
+  leaf_by zero h = absurd (h c.p c.q refl)
+  leaf_by (suc zero) h = refl
+  leaf_by (suc (suc zero)) h = refl
+  leaf_by (suc (suc (suc zero))) h = refl
+  leaf_by (suc (suc (suc (suc k)))) h = absurd (h c.p c.q refl)
+
+  pub said_node : {l q : ℕ} → Said.Node l q ≡ tree_said c → (in_table 3 c.kind ≡ false) × (l ≡ c.p) × (q ≡ c.q)
+  unfolding said
+  said_node e = node_by c.kind e
+
+  pub said_text : {o n : ℕ} → Said.Text o n ≡ tree_said c → (c.kind ≡ 1) × (o ≡ c.p) × (n ≡ c.q)
+  unfolding said
+  said_text e = text_by c.kind e
+
+  pub said_bool : {b : Bool} → Said.Bool b ≡ tree_said c → c.kind ≡ bool_kind b
+  unfolding said
+  said_bool e = bool_by c.kind e
+
+  pub said_leaf : ((l q : ℕ) → tree_said c ≡ Said.Node l q → ⊥) → in_table 3 c.kind ≡ true
+  unfolding said
+  said_leaf h = leaf_by c.kind h

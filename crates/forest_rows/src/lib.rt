@@ -1,12 +1,13 @@
 // Forests in lent rows, append only: a value is the row of its first tree, 0 the empty forest. Rows refer to lower rows, so old values
 // stay true.
+// Loops walk along rows, each of which names the next: no index is counted, and an iterator that lends the rows could not stand where a
+// loop writes rows. The kind that is written is the number in the row, which the C interface hands out.
 #![tactic(auto)]
 
 pub mod texts;
 
 ghost use Rattle.std.specs.Prelude.{◌≡◌, ℕ, ◌+◌, ◌*◌, ◌-◌, ◌<◌, ◌≤◌, length};
 ghost use Rattle.meaning.specs.Forest.{count, forest_at};
-ghost use Rattle.meaning.specs.Run.{kept};
 ghost use Rattle.meaning.specs.Theorems.ReadBack.{lent_row};
 ghost use Rattle.sheet.specs.Laid.{Words, cells_of};
 ghost use Rattle.walk.specs.Meets.{Meets, Roomy};
@@ -14,15 +15,18 @@ ghost use Rattle.walk.specs.Loop.{Links, Turns, gathered, keep_of};
 ghost use Rattle.forest_rows.specs.Rows.{
   Readable,
   Pushed,
-  JoinAsks,
-  Joined,
+  CopyAsks,
+  Copied,
+  Takes,
+  chosen,
+  link,
   GatherAsks,
   Gathered,
-  PickAsks,
-  Picked,
   Judged,
-  Sought,
   Sees,
+  bool_of,
+  text_of,
+  node_of,
   MakeAsks,
   made,
   fronted,
@@ -30,10 +34,11 @@ ghost use Rattle.forest_rows.specs.Rows.{
 };
 
 use sheet::Row;
-use walk::{Answer, Purse, Stop, Taken};
+use sheet::forms::Tree;
+use walk::{Got, Left, Stop};
 use words::{put_word, word_at, word_in};
 
-// Row `r`, from 1, all of it there.
+// Row `r`, from 1, all of it there. A kind is a word: `as u16` loses nothing, here and below.
 pub fn row(rows: &[u8], r: usize) -> Row
     requires { (0 < r) × (r < 65536) × (8 * r ≤ length rows.now) }
     ensures is { cells_of result ≡ lent_row rows.now r }
@@ -48,7 +53,8 @@ pub fn row(rows: &[u8], r: usize) -> Row
     }
 }
 
-// Row `r`, from 1; what lies past the end of the rows reads as 0.
+// Row `r`, from 1; what lies past the end of the rows reads as 0. The twin of `row` for rows that may not be there: those that a walk
+// reads are there, and `row` tests nothing for each word.
 pub fn any_row(rows: &[u8], r: usize) -> Row
     requires { (0 < r) × (r < 65536) }
     ensures is { cells_of result ≡ lent_row rows.now r }
@@ -77,19 +83,58 @@ pub fn push(rows: &mut [u8], used: usize, kind: usize, p: usize, q: usize, next:
     used + 1
 }
 
+// Which trees of a forest are meant.
+#[derive(Clone, Copy, Debug, PartialEq, Eq)]
+pub enum Which {
+    All,
+    Labelled(usize),
+}
+
+impl Which {
+    // Whether the row is such a tree.
+    pub fn takes(self, t: Row) -> bool
+        ensures { Takes self (cells_of t) result }
+    {
+        match self {
+            Which::All => true,
+            Which::Labelled(l) => labelled(t, l),
+        }
+    }
+}
+
+// Whether the row is a tree labelled `l`.
+fn labelled(t: Row, l: usize) -> bool
+    ensures { Judged (cells_of t) l result }
+{
+    match t.as_tree() {
+        Tree::Node(label, _) => label == l,
+        _ => false,
+    }
+}
+
+// How many such trees stand at the top of the forest at `root`.
+pub fn count(rows: &[u8], which: Which, root: usize) -> usize
+    requires { Readable rows.now root }
+    ensures { (byte : ℕ → ℕ) → result ≡ count (chosen which (forest_at byte (lent_row rows.now) root)) }
+{
+    let mut n = 0;
+    let mut at = root;
+    while at != 0 {
+        let t = row(rows, at);
+        if which.takes(t) {
+            n += 1;
+        }
+        at = t.r;
+    }
+    n
+}
+
 // How many trees stand at the top of the forest at `root`.
 pub fn trees(rows: &[u8], root: usize) -> usize
     requires { Readable rows.now root }
     ensures { (byte : ℕ → ℕ) → result ≡ count (forest_at byte (lent_row rows.now) root) }
 {
-    let mut n = 0;
-    let mut at = root;
-    while at != 0 {
-        n += 1;
-        let t = row(rows, at);
-        at = t.r;
-    }
-    n
+    count(rows, Which::All, root)
 }
 
 #[derive(Clone, Copy)]
@@ -98,96 +143,33 @@ pub struct Grown {
     pub used: usize,
 }
 
-// The trees at `a`, copied, and then the forest at `b`: counted first, written downwards.
-pub fn join(rows: &mut [u8], used: usize, a: usize, b: usize) -> Grown
-    requires { JoinAsks rows.old used a b }
-    ensures { (byte : ℕ → ℕ) → Joined byte rows.old rows.new used a b result.root result.used }
+// The row of the forest that is written from row `used` + 1 up to row `to`, in front of the forest at `b`: where nothing is, `b`.
+fn front_row(used: usize, to: usize, b: usize) -> usize
+    ensures { result ≡ link used b to }
 {
-    if a == 0 {
-        return Grown { root: b, used };
-    }
-    let k = trees(rows, a);
-    let top = used + k;
+    if to == used { b } else { to }
+}
+
+// Such trees at `a`, copied, and then the forest at `b`: counted first, written downwards.
+pub fn copy(rows: &mut [u8], used: usize, which: Which, a: usize, b: usize) -> Grown
+    requires { CopyAsks rows.old used which a b }
+    ensures { (byte : ℕ → ℕ) → Copied byte rows.old rows.new used which a b result.root result.used }
+{
+    let top = used + count(rows, which, a);
+    let mut to = top;
     let mut at = a;
-    let mut to = top - 1;
+    // No range: `to` falls where a tree is taken, and not at each turn.
     while used < to {
         let t = row(rows, at);
-        push(rows, to, t.kind as usize, t.p, t.q, to);
-        at = t.r;
-        to -= 1;
-    }
-    let t = row(rows, at);
-    push(rows, used, t.kind as usize, t.p, t.q, b);
-    Grown {
-        root: top,
-        used: top,
-    }
-}
-
-// Whether the row is a tree labelled `l`.
-fn labelled(t: Row, l: usize) -> bool
-    ensures { Judged (cells_of t) l result }
-{
-    let kind = t.kind;
-    match kind {
-        1..=3 => false,
-        0 | 4..=65535 => t.p == l,
-    }
-}
-
-// The first tree labelled `l` from `from` on.
-fn seek(rows: &[u8], l: usize, from: usize) -> usize
-    requires { Readable rows.now from }
-    ensures { Sought rows.now l from result }
-{
-    let mut at = from;
-    while at != 0 {
-        let t = row(rows, at);
-        if labelled(t, l) {
-            return at;
+        if which.takes(t) {
+            to -= 1;
+            let next = front_row(used, to, b);
+            push(rows, to, usize::from(t.kind), t.p, t.q, next);
         }
         at = t.r;
     }
-    0
-}
-
-// How many trees labelled `l` stand at `root`.
-pub fn picks(rows: &[u8], l: usize, root: usize) -> usize
-    requires { Readable rows.now root }
-    ensures { (byte : ℕ → ℕ) → result ≡ count (kept l (forest_at byte (lent_row rows.now) root)) }
-{
-    let mut n = 0;
-    let mut at = seek(rows, l, root);
-    while at != 0 {
-        n += 1;
-        let t = row(rows, at);
-        at = seek(rows, l, t.r);
-    }
-    n
-}
-
-// The trees labelled `l` at `root`, copied.
-pub fn pick(rows: &mut [u8], used: usize, l: usize, root: usize) -> Grown
-    requires { PickAsks rows.old used l root }
-    ensures { (byte : ℕ → ℕ) → Picked byte rows.old rows.new used l root result.root result.used }
-{
-    let mut at = seek(rows, l, root);
-    if at == 0 {
-        return Grown { root: 0, used };
-    }
-    let k = picks(rows, l, root);
-    let top = used + k;
-    let mut to = top - 1;
-    while used < to {
-        let t = row(rows, at);
-        push(rows, to, t.kind as usize, t.p, t.q, to);
-        at = seek(rows, l, t.r);
-        to -= 1;
-    }
-    let t = row(rows, at);
-    push(rows, used, t.kind as usize, t.p, t.q, 0);
     Grown {
-        root: top,
+        root: front_row(used, top, b),
         used: top,
     }
 }
@@ -203,7 +185,7 @@ pub fn gather(rows: &mut [u8], used: usize, link: usize) -> Grown
     let mut n = used;
     while at != 0 {
         let t = row(rows, at);
-        let g = join(rows, n, t.q, root);
+        let g = copy(rows, n, Which::All, t.q, root);
         root = g.root;
         n = g.used;
         at = t.r;
@@ -221,6 +203,36 @@ pub enum Seen {
     Node(usize, usize),
 }
 
+impl Seen {
+    // One bool; one text, its offset and length; one labelled tree, its label and the row of its first child.
+    pub fn bool(self) -> Option<bool>
+        ensures { result ≡ bool_of self }
+    {
+        match self {
+            Seen::Bool(b) => Some(b),
+            _ => None,
+        }
+    }
+
+    pub fn text(self) -> Option<(usize, usize)>
+        ensures { result ≡ text_of self }
+    {
+        match self {
+            Seen::Text(o, n) => Some((o, n)),
+            _ => None,
+        }
+    }
+
+    pub fn node(self) -> Option<(usize, usize)>
+        ensures { result ≡ node_of self }
+    {
+        match self {
+            Seen::Node(l, c) => Some((l, c)),
+            _ => None,
+        }
+    }
+}
+
 pub fn look(rows: &[u8], root: usize) -> Seen
     requires { Readable rows.now root }
     ensures { (byte : ℕ → ℕ) → Sees byte rows.now root result }
@@ -232,92 +244,71 @@ pub fn look(rows: &[u8], root: usize) -> Seen
     if t.r != 0 {
         return Seen::Many;
     }
-    let kind = t.kind;
-    match kind {
-        1 => Seen::Text(t.p, t.q),
-        2 => Seen::Bool(false),
-        3 => Seen::Bool(true),
-        0 | 4..=65535 => Seen::Node(t.p, t.q),
+    match t.as_tree() {
+        Tree::Text(o, n) => Seen::Text(o, n),
+        Tree::Bool(b) => Seen::Bool(b),
+        Tree::Node(l, c) => Seen::Node(l, c),
     }
 }
 
-// A new tree: one copy.
-pub fn make(rows: &mut [u8], used: usize, kind: usize, p: usize, q: usize, purse: Purse) -> Answer
-    requires { MakeAsks rows.old used kind p q purse.left }
-    ensures { (byte : ℕ → ℕ) → Meets (made byte rows.old kind p q) byte purse.left used rows.old
+// A new tree: one copy. Its kind is the number that stands in the row: a name for it would be turned into that number here.
+pub fn make(rows: &mut [u8], kind: usize, p: usize, q: usize, left: Left) -> Result<Got, Stop>
+    requires { MakeAsks rows.old left.used kind p q left.purse.left }
+    ensures { (byte : ℕ → ℕ) → Meets (made byte rows.old kind p q) byte left.purse.left left.used rows.old
         rows.new result }
 {
-    match purse.take() {
-        Taken::Fuel => Answer::Not(Stop::Fuel),
-        Taken::Left(rest) => {
-            let top = push(rows, used, kind, p, q, 0);
-            Answer::Done {
-                root: top,
-                used: top,
-                purse: rest,
-            }
-        }
-    }
+    let purse = left.purse.take()?;
+    let top = push(rows, left.used, kind, p, q, 0);
+    Ok(Got {
+        root: top,
+        left: Left { used: top, purse },
+    })
 }
 
 // The trees at `a`, copied, in front of the forest at `b`.
-pub fn front(rows: &mut [u8], used: usize, a: usize, b: usize, purse: Purse) -> Answer
-    requires { (Roomy rows.old used purse.left) × (a ≤ used) × (b ≤ used) }
+pub fn front(rows: &mut [u8], a: usize, b: usize, left: Left) -> Result<Got, Stop>
+    requires { (Roomy rows.old left.used left.purse.left) × (a ≤ left.used) × (b ≤ left.used) }
     ensures { (byte : ℕ → ℕ) → Meets (fronted (forest_at byte (lent_row rows.old) a)
-        (forest_at byte (lent_row rows.old) b)) byte purse.left used rows.old rows.new result }
+        (forest_at byte (lent_row rows.old) b)) byte left.purse.left left.used rows.old rows.new result }
 {
     let n = trees(rows, a);
-    match purse.pay(n) {
-        Taken::Fuel => Answer::Not(Stop::Fuel),
-        Taken::Left(rest) => {
-            let g = join(rows, used, a, b);
-            Answer::Done {
-                root: g.root,
-                used: g.used,
-                purse: rest,
-            }
-        }
-    }
+    let purse = left.purse.pay(n)?;
+    let Grown { root, used } = copy(rows, left.used, Which::All, a, b);
+    Ok(Got {
+        root,
+        left: Left { used, purse },
+    })
 }
 
 // A turn's result, its copies paid, as a link in front of the links before.
-pub fn keep(rows: &mut [u8], used: usize, got: usize, link: usize, purse: Purse) -> Answer
-    requires { (Roomy rows.old used (purse.left + 1)) × (got ≤ used) × (link ≤ used) }
+pub fn keep(rows: &mut [u8], got: usize, link: usize, left: Left) -> Result<Got, Stop>
+    requires { (Roomy rows.old left.used (left.purse.left + 1)) × (got ≤ left.used) × (link ≤ left.used) }
     ensures { (byte : ℕ → ℕ) → Links (forest_at byte (lent_row rows.old) link)
         → Turns (keep_of (forest_at byte (lent_row rows.old) link) (forest_at byte (lent_row rows.old) got)) byte
-        purse.left used (used + purse.left + 1 + count (gathered (forest_at byte (lent_row rows.old) link)))
+        left.purse.left left.used (left.used + left.purse.left + 1 + count (gathered (forest_at byte (lent_row rows.old) link)))
         rows.old rows.new result }
 {
     let owed = trees(rows, got);
-    match purse.pay(owed) {
-        Taken::Fuel => Answer::Not(Stop::Fuel),
-        Taken::Left(rest) => {
-            let top = push(rows, used, 4, 0, got, link);
-            Answer::Done {
-                root: top,
-                used: top,
-                purse: rest,
-            }
-        }
-    }
+    let purse = left.purse.pay(owed)?;
+    let top = push(rows, left.used, 4, 0, got, link);
+    Ok(Got {
+        root: top,
+        left: Left { used: top, purse },
+    })
 }
 
 // The trees with the label, copied.
-pub fn picked(rows: &mut [u8], used: usize, label: usize, root: usize, purse: Purse) -> Answer
-    requires { (Roomy rows.old used purse.left) × (root ≤ used) }
-    ensures { (byte : ℕ → ℕ) → Meets (picked_of label (forest_at byte (lent_row rows.old) root)) byte purse.left used
-        rows.old rows.new result }
+pub fn picked(rows: &mut [u8], label: usize, root: usize, left: Left) -> Result<Got, Stop>
+    requires { (Roomy rows.old left.used left.purse.left) × (root ≤ left.used) }
+    ensures { (byte : ℕ → ℕ) → Meets (picked_of label (forest_at byte (lent_row rows.old) root)) byte
+        left.purse.left left.used rows.old rows.new result }
 {
-    let n = picks(rows, label, root);
-    match purse.pay(n) {
-        Taken::Fuel => Answer::Not(Stop::Fuel),
-        Taken::Left(rest) => {
-            let g = pick(rows, used, label, root);
-            Answer::Done {
-                root: g.root,
-                used: g.used,
-                purse: rest,
-            }
-        }
-    }
+    let which = Which::Labelled(label);
+    let n = count(rows, which, root);
+    let purse = left.purse.pay(n)?;
+    let Grown { root, used } = copy(rows, left.used, which, root, 0);
+    Ok(Got {
+        root,
+        left: Left { used, purse },
+    })
 }

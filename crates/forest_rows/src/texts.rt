@@ -3,16 +3,11 @@ ghost use Rattle.std.specs.Prelude.{◌≡◌, ◌<◌, get_or};
 ghost use Rattle.meaning.specs.Sheet.{grove_of};
 ghost use Rattle.meaning.specs.Forest.{bytes_from, equal_bytes};
 
-use words::wide;
-
 // Byte `i`; what lies past the end reads as 0.
-fn byte_at(s: &[u8], i: usize) -> usize
+fn byte_at(s: &[u8], i: usize) -> u8
     ensures { result ≡ get_or s.now i 0 }
 {
-    if s.len() <= i {
-        return 0;
-    }
-    wide(s[i])
+    s.get(i).copied().unwrap_or(0)
 }
 
 // Whether two places of the pool hold the same bytes.
@@ -24,12 +19,10 @@ pub fn same_bytes(s: &[u8], o: usize, n: usize, p: usize, m: usize) -> bool
         return false;
     }
     let at = sheet::pool_from(s);
-    let mut i = 0;
-    while i < n {
+    for i in 0..n {
         if byte_at(s, at + o + i) != byte_at(s, at + p + i) {
             return false;
         }
-        i += 1;
     }
     true
 }

@@ -17,10 +17,6 @@ append_none (x ∷ l) = ap (λ m. x ∷ m) (append_none l)
 pub adds_none : (old : List ℕ) (at : ℕ) → Adds [] old at old at
 adds_none old at = record { ends = omega arith; says = sym (append_none (take at old)); long = refl }
 
--- no byte of a word yet
-pub adds_start : (text old : List ℕ) (at : ℕ) → Adds (take 0 text) old at old (at + 0)
-adds_start text old at = let e : at ≡ at + 0 = omega arith in subst (λ (n : ℕ). Adds [] old at old n) e (adds_none old at)
-
 pub adds_byte : (old : List ℕ) (at byte : ℕ) → at < length old → Adds (byte ∷ []) old at (set old at byte) (at + 1)
 adds_byte old at byte h = record { ends = refl; says = rw add-one (take-suc-set old at byte h); long = length-set old at byte }
 
@@ -68,6 +64,25 @@ pub fields_more : (n : ℕ) (l : List ℕ) → fields (n ∷ l) ≡ (32 ∷ digi
 unfolding fields
 fields_more n l = refl
 
+-- the numbers alone
+unfoldable pub spaced : List ℕ → List ℕ
+spaced [] = []
+spaced (n ∷ l) = (32 ∷ digits 8 n) ++ spaced l
+
+pub fields_spaced : (l : List ℕ) → fields l ≡ spaced l ++ 10 ∷ []
+unfolding fields spaced
+fields_spaced [] = refl
+fields_spaced (n ∷ l) = ap (λ (m : List ℕ). (32 ∷ digits 8 n) ++ m) (fields_spaced l) ∙ sym (append_assoc (32 ∷ digits 8 n) (spaced l) (10 ∷ []))
+
+pub spaced_none : spaced [] ≡ []
+unfolding spaced
+spaced_none = refl
+
+pub spaced_last : (l : List ℕ) (n : ℕ) → spaced (l ++ n ∷ []) ≡ spaced l ++ 32 ∷ digits 8 n
+unfolding spaced
+spaced_last [] n = append_none (32 ∷ digits 8 n)
+spaced_last (x ∷ l) n = ap (λ (m : List ℕ). (32 ∷ digits 8 x) ++ m) (spaced_last l n) ∙ sym (append_assoc (32 ∷ digits 8 x) (spaced l) (32 ∷ digits 8 n))
+
 -- the line of row n + 1
 unfoldable pub row_line : List ℕ → ℕ → List ℕ
 row_line b n = digits 8 (suc n)
@@ -80,14 +95,6 @@ row_lines_none b = refl
 pub row_lines_more : (b : List ℕ) (n : ℕ) → row_lines b (n + 1) ≡ row_lines b n ++ row_line b n
 unfolding row_lines row_line
 row_lines_more b n = rw add-one (append_assoc (row_lines b n) _ _)
-
--- one byte more of a word
-pub adds_next : (text : List ℕ) {old mid new : List ℕ} {at i end : ℕ} → i < length text → Adds (take i text) old at mid (at + i) → Adds (get_or text i 0 ∷ []) mid (at + i) new end
-    → Adds (take (i + 1) text) old at new (at + (i + 1))
-adds_next text {old} {mid} {new} {at} {i} {end} h a b =
-    let e : end ≡ at + (i + 1) = b.ends ∙ omega arith in
-    let t : take i text ++ get_or text i 0 ∷ [] ≡ take (i + 1) text = rw add-one (sym (take-suc text i 0 h)) in
-    rw e at (adds_as t (adds_then a b))
 
 -- ---- a number's digits, as the code puts them
 
@@ -103,6 +110,11 @@ module _ {old new : List ℕ} {at end : ℕ} (k n d : ℕ) (is : d ≡ 48 + n % 
       let e : suc (k - 1) ≡ k = omega (arith, add-one (k - 1)) in
       let t : digits (k - 1) (n / 10) ++ d ∷ [] ≡ digits k n = ap (λ (x : ℕ). digits (k - 1) (n / 10) ++ x ∷ []) is ∙ sym (digits_more (k - 1) n h) ∙ ap (λ (j : ℕ). digits j n) e in
       adds_as t (adds_then a b)
+
+-- one number more
+pub adds_field : (ns : List ℕ) {old mid new : List ℕ} {at i m end : ℕ} → i < length ns → Adds (spaced (take i ns)) old at mid m → Adds (32 ∷ digits 8 (get_or ns i 0)) mid m new end
+    → Adds (spaced (take (i + 1) ns)) old at new end
+adds_field ns {i = i} h a b = adds_as (sym (spaced_last (take i ns) (get_or ns i 0)) ∙ ap spaced (rw add-one (sym (take-suc ns i 0 h)))) (adds_then a b)
 
 -- a row's line, as the code puts it
 pub adds_row : (b : List ℕ) (n : ℕ) {kind p q next i : ℕ} {old mid new : List ℕ} {at m end : ℕ} → i ≡ 4 * n

@@ -1,5 +1,5 @@
 -- What the listing of a bundle is: question by question, the text that each answer adds; together `Listing.listing` of what `Listing.Tells` says of the bundle.
-use Rattle.std.specs.Prelude.{ℕ, ◌≤◌, ◌<◌, ◌≡◌, refl, true, List, [], ◌∷◌, ◌++◌, length, take}
+use Rattle.std.specs.Prelude.{ℕ, ◌≤◌, ◌<◌, ◌≡◌, refl, true, List, [], ◌∷◌, ◌++◌, length, take, Result, Ok, Err}
 use Rattle.std.proofs.Common.{sym, ap, ◌∙◌, subst, append_assoc, arith, length-take}
 use Rattle.std.proofs.lemmas.List.{length-replicate}
 use Rattle.meaning.specs.Words.{rows_lent, word_at}
@@ -64,19 +64,30 @@ use Rattle.meaning.specs.Listing.{
   told,
 }
 use Rattle.listing.specs.Adds.{Adds, adds_as, adds_then}
-use Rattle.bundle.specs.declared.Copied.{Copied}
-use Rattle.bundle.specs.declared.Copied.TheVariants.{Done, Block, Shape, Room}
+use Rattle.bundle.specs.declared.Refused.{Refused}
+use Rattle.bundle.specs.declared.Refused.TheVariants.{Block, Shape, Room}
 use Rattle.bundle.specs.Calls.{copied_of, replied}
 use Rattle.bundle.specs.Reads.{largest, read_block, read_shape, never_room}
-use Rattle.desk.specs.declared.Checked.{Checked as CheckAnswer}
+use Rattle.desk.specs.declared.CheckRefusal.{CheckRefusal}
 use Rattle.desk.specs.Checking.{checked_answer, checked_units, checked_reply}
-use Rattle.desk.specs.declared.Ran.{Ran as RunAnswer}
+use Rattle.desk.specs.declared.Ran.{Ran as Done}
+use Rattle.desk.specs.declared.RunRefusal.{RunRefusal}
 use Rattle.desk.specs.Said.{ran_answer, ran_units, ran_root, ran_reply, root_lent}
-use Rattle.fit.specs.declared.Answer.{Answer as FitAnswer}
+use Rattle.fit.specs.declared.Refusal.{Refusal as FitRefusal}
 use Rattle.fit.specs.Answers.{fit_of}
 use Rattle.coded.specs.declared.Coded.{Coded as Given}
 use Rattle.coded.specs.Numbers.{numbers}
 use Rattle.listing.specs.declared.Listed.{Listed}
+
+-- what the questions answer
+abbrev CheckAnswer : Type 0
+CheckAnswer = Result ℕ CheckRefusal
+
+abbrev FitAnswer : Type 0
+FitAnswer = Result (Unit {0}) FitRefusal
+
+abbrev RunAnswer : Type 0
+RunAnswer = Result Done RunRefusal
 
 abbrev pub numbered : Answer → ℕ
 numbered a = (answer_code a).number
@@ -226,14 +237,13 @@ module _ {b old new : List ℕ} {l : Listed} (fr : framed b ≡ true) where
   sheet_lists (checks c a t) = fit_lists c a t
 
 -- refused by the reader
-pub load_lists : (b lent : List ℕ) {old new after : List ℕ} {l : Listed} (r : Copied) → replied r after ≡ read b lent → largest ≤ length lent → (r ≡ Done → ⊥)
-    → l.number ≡ numbered (copied_of r) → Adds (line "load" (l.number ∷ [])) old 0 new l.bytes → Lists b l new
+pub load_lists : (b lent : List ℕ) {old new after : List ℕ} {l : Listed} (r : Refused) → replied (Err r) after ≡ read b lent → largest ≤ length lent
+    → l.number ≡ numbered (copied_of (Err r)) → Adds (line "load" (l.number ∷ [])) old 0 new l.bytes → Lists b l new
 unfolding listing answer_code
-load_lists b lent Done e n d is a = absurd (d refl)
-load_lists b lent {l = l} Block e n d is a = lists_told {t = loaded block} (not_framed (read_block b lent e refl)) (adds_as (ap (λ (k : ℕ). line "load" (k ∷ [])) is) a) is
-load_lists b lent {l = l} Shape e n d is a = let x = read_shape b lent e refl in
+load_lists b lent {l = l} Block e n is a = lists_told {t = loaded block} (not_framed (read_block b lent e refl)) (adds_as (ap (λ (k : ℕ). line "load" (k ∷ [])) is) a) is
+load_lists b lent {l = l} Shape e n is a = let x = read_shape b lent e refl in
     lists_told {t = loaded shape} (not_loaded x.0 (misshapen x.1)) (adds_as (ap (λ (k : ℕ). line "load" (k ∷ [])) is) a) is
-load_lists b lent Room e n d is a = absurd (never_room b lent e n refl)
+load_lists b lent Room e n is a = absurd (never_room b lent e n refl)
 
 -- ---- each answer's part, as the code adds it
 

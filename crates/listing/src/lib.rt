@@ -9,16 +9,15 @@ ghost use Rattle.meaning.specs.Listing.{line, lent_work, lent_result};
 ghost use Rattle.listing.specs.Adds.{Adds};
 ghost use Rattle.listing.specs.Lists.{RunTold, FitTold, SheetTold, Lists};
 
-use bundle::Copied;
-
-// The listing's bytes, and the number that ended it: 0 where all is done.
+// The listing's bytes, and the number that ended it: 0 where all is done. Document 01 words the listing by numbers (`load` for 1 to 4),
+// and so do the functions below.
 #[derive(Clone, Copy)]
 pub struct Listed {
     pub bytes: usize,
     pub number: usize,
 }
 
-// 6,144 working and 8,192 result rows.
+// 6,144 working and 8,192 result rows: two sizes, named here once each.
 fn working_rows() -> [u8; 49152]
     ensures { result ≡ lent_work }
 {
@@ -29,49 +28,6 @@ fn result_rows() -> [u8; 65536]
     ensures { result ≡ lent_result }
 {
     [0; 65536]
-}
-
-fn load_line(out: &mut [u8], number: usize) -> usize
-    requires { 15 ≤ length out.old }
-    ensures { Adds (line "load" (number ∷ [])) out.old 0 out.new result }
-{
-    let end = crate::lines::word(out, 0, b"load");
-    crate::lines::fields1(out, end, number)
-}
-
-fn check_line(out: &mut [u8], number: usize, units: usize) -> usize
-    requires { 26 ≤ length out.old }
-    ensures adds { Adds (line "check" (number ∷ units ∷ [])) out.old 0 out.new result }
-    ensures upper_bound { result ≤ 26 }
-{
-    let end = crate::lines::word(out, 0, b"check");
-    crate::lines::fields2(out, end, number, units)
-}
-
-fn fit_line(out: &mut [u8], at: usize, number: usize, row: usize) -> usize
-    requires { at + 24 ≤ length out.old }
-    ensures adds { Adds (line "fit" (number ∷ row ∷ [])) out.old at out.new result }
-    ensures upper_bound { result ≤ at + 24 }
-{
-    let end = crate::lines::word(out, at, b"fit");
-    crate::lines::fields2(out, end, number, row)
-}
-
-fn run_line(out: &mut [u8], at: usize, number: usize, units: usize) -> usize
-    requires { at + 24 ≤ length out.old }
-    ensures { Adds (line "run" (number ∷ units ∷ [])) out.old at out.new result }
-{
-    let end = crate::lines::word(out, at, b"run");
-    crate::lines::fields2(out, end, number, units)
-}
-
-fn done_line(out: &mut [u8], at: usize, units: usize, root: usize) -> usize
-    requires { at + 34 ≤ length out.old }
-    ensures adds { Adds (line "run" (0 ∷ units ∷ root ∷ [])) out.old at out.new result }
-    ensures upper_bound { result ≤ at + 34 }
-{
-    let end = crate::lines::word(out, at, b"run");
-    crate::lines::fields3(out, end, 0, units, root)
 }
 
 // The run's line, and where it is done its rows.
@@ -86,11 +42,11 @@ fn run_told(s: &[u8], out: &mut [u8], at: usize) -> Listed
     let units = coded::run_units(answer);
     let number = code.number;
     if number != 0 {
-        let bytes = run_line(out, at, number, units);
+        let bytes = crate::lines::line(out, at, b"run", &[number, units]);
         return Listed { bytes, number };
     }
     let root = coded::root(answer);
-    let end = done_line(out, at, units, root);
+    let end = crate::lines::line(out, at, b"run", &[0, units, root]);
     let bytes = crate::lines::rows(out, end, &result, root);
     Listed { bytes, number }
 }
@@ -103,7 +59,7 @@ fn fit_told(s: &[u8], out: &mut [u8], at: usize) -> Listed
     let a = words::word_at(s, 7);
     let code = coded::fitted(fit::fit(s, a));
     let number = code.number;
-    let bytes = fit_line(out, at, number, code.a);
+    let bytes = crate::lines::line(out, at, b"fit", &[number, code.a]);
     if number != 0 {
         return Listed { bytes, number };
     }
@@ -121,14 +77,14 @@ fn sheet_told(s: &[u8], out: &mut [u8]) -> Listed
     let units = coded::check_units(answer);
     let number = code.number;
     if number == 0 {
-        let end = check_line(out, number, units);
+        let end = crate::lines::line(out, 0, b"check", &[number, units]);
         return fit_told(s, out, end);
     }
     if number < 5 {
-        let bytes = load_line(out, number);
+        let bytes = crate::lines::line(out, 0, b"load", &[number]);
         return Listed { bytes, number };
     }
-    let bytes = check_line(out, number, units);
+    let bytes = crate::lines::line(out, 0, b"check", &[number, units]);
     Listed { bytes, number }
 }
 
@@ -137,14 +93,16 @@ pub fn listing(bundle: &[u8], out: &mut [u8]) -> Listed
     requires { 409684 ≤ length out.old }
     ensures { Lists bundle.now result out.new }
 {
-    let mut tables = [0u8; 44704];
-    let answer = bundle::read(bundle, &mut tables);
-    let Copied::Done = answer else {
-        let code = coded::copied(answer);
-        let number = code.number;
-        let bytes = load_line(out, number);
-        return Listed { bytes, number };
-    };
-    let need = sheet::need_of(&tables);
-    sheet_told(&tables[..need], out)
+    let mut tables = [0u8; bundle::LARGEST];
+    match bundle::read(bundle, &mut tables) {
+        Err(why) => {
+            let number = coded::copied(Err(why)).number;
+            let bytes = crate::lines::line(out, 0, b"load", &[number]);
+            Listed { bytes, number }
+        }
+        Ok(()) => {
+            let need = sheet::need_of(&tables);
+            sheet_told(&tables[..need], out)
+        }
+    }
 }

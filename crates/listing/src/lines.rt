@@ -1,5 +1,5 @@
 // The listing's text into a lent buffer: each function says what it adds behind the first `at` bytes, and answers where that ends.
-ghost use Rattle.std.specs.Prelude.{◌≡◌, [], ◌∷◌, ◌+◌, ◌*◌, ◌%◌, ◌≤◌, ◌<◌, length};
+ghost use Rattle.std.specs.Prelude.{◌≡◌, [], ◌∷◌, ◌++◌, ◌+◌, ◌*◌, ◌%◌, ◌≤◌, ◌<◌, length};
 ghost use Rattle.meaning.specs.Listing.{digits, fields, row_lines};
 ghost use Rattle.listing.specs.Adds.{Adds, row_line};
 
@@ -11,7 +11,7 @@ fn put(out: &mut [u8], at: usize, byte: u8) -> usize
     at + 1
 }
 
-// The last digit of a number.
+// The last digit of a number: of `n % 10` the cast loses nothing.
 fn digit(n: usize) -> u8
     ensures { result ≡ 48 + n % 10 }
 {
@@ -34,16 +34,12 @@ fn number(out: &mut [u8], at: usize, n: usize, k: usize) -> usize
 }
 
 // The bytes of a word.
-pub fn word(out: &mut [u8], at: usize, text: &[u8]) -> usize
+fn word(out: &mut [u8], at: usize, text: &[u8]) -> usize
     requires { at + length text.now ≤ length out.old }
     ensures adds { Adds text.now out.old at out.new result }
 {
-    let mut i = 0;
-    while i < text.len() {
-        put(out, at + i, text[i]);
-        i += 1;
-    }
-    at + i
+    out[at..at + text.len()].copy_from_slice(text);
+    at + text.len()
 }
 
 // A number with a space before it.
@@ -56,41 +52,27 @@ fn field(out: &mut [u8], at: usize, n: usize) -> usize
     number(out, mid, n, 8)
 }
 
-// One to four fields, and the line's end.
-pub fn fields1(out: &mut [u8], at: usize, a: usize) -> usize
-    requires { at + 11 ≤ length out.old }
-    ensures adds { Adds (fields (a ∷ [])) out.old at out.new result }
-    ensures few { result ≤ at + 11 }
+// A field for each number, and the line's end.
+fn fields(out: &mut [u8], at: usize, numbers: &[usize]) -> usize
+    requires { at + 10 * length numbers.now + 1 ≤ length out.old }
+    ensures adds { Adds (fields numbers.now) out.old at out.new result }
+    ensures few { result ≤ at + 10 * length numbers.now + 1 }
 {
-    let mid = field(out, at, a);
-    put(out, mid, 10)
+    let mut end = at;
+    for &n in numbers {
+        end = field(out, end, n);
+    }
+    put(out, end, 10)
 }
 
-pub fn fields2(out: &mut [u8], at: usize, a: usize, b: usize) -> usize
-    requires { at + 21 ≤ length out.old }
-    ensures adds { Adds (fields (a ∷ b ∷ [])) out.old at out.new result }
-    ensures few { result ≤ at + 21 }
+// A question's line: its word, and what is told of it.
+pub fn line(out: &mut [u8], at: usize, question: &[u8], numbers: &[usize]) -> usize
+    requires { at + length question.now + 10 * length numbers.now + 1 ≤ length out.old }
+    ensures adds { Adds (question.now ++ fields numbers.now) out.old at out.new result }
+    ensures few { result ≤ at + length question.now + 10 * length numbers.now + 1 }
 {
-    let mid = field(out, at, a);
-    fields1(out, mid, b)
-}
-
-pub fn fields3(out: &mut [u8], at: usize, a: usize, b: usize, c: usize) -> usize
-    requires { at + 31 ≤ length out.old }
-    ensures adds { Adds (fields (a ∷ b ∷ c ∷ [])) out.old at out.new result }
-    ensures few { result ≤ at + 31 }
-{
-    let mid = field(out, at, a);
-    fields2(out, mid, b, c)
-}
-
-fn fields4(out: &mut [u8], at: usize, a: usize, b: usize, c: usize, d: usize) -> usize
-    requires { at + 41 ≤ length out.old }
-    ensures adds { Adds (fields (a ∷ b ∷ c ∷ d ∷ [])) out.old at out.new result }
-    ensures few { result ≤ at + 41 }
-{
-    let mid = field(out, at, a);
-    fields3(out, mid, b, c, d)
+    let end = word(out, at, question);
+    fields(out, end, numbers)
 }
 
 // The line of the row behind the first n: its number and its four words.
@@ -105,7 +87,7 @@ fn row(out: &mut [u8], at: usize, b: &[u8], n: usize) -> usize
     let q = words::word_at(b, i + 2);
     let next = words::word_at(b, i + 3);
     let mid = number(out, at, n + 1, 8);
-    fields4(out, mid, kind, p, q, next)
+    fields(out, mid, &[kind, p, q, next])
 }
 
 // The lines of the first `root` rows.
@@ -114,10 +96,8 @@ pub fn rows(out: &mut [u8], at: usize, b: &[u8], root: usize) -> usize
     ensures adds { Adds (row_lines b.now root) out.old at out.new result }
 {
     let mut end = at;
-    let mut n = 0;
-    while n < root {
+    for n in 0..root {
         end = row(out, end, b, n);
-        n += 1;
     }
     end
 }

@@ -37,63 +37,48 @@ fn row_line<P: Print>(out: &mut Output<'_, P>, res: &[u8], r: usize)
 {
     let c = forest_rows::any_row(res, r);
     number(out, r);
-    field(out, c.kind as usize);
-    field(out, c.p);
-    field(out, c.q);
-    field(out, c.r);
-    put(out, b"\n");
+    line(out, b"", &[usize::from(c.kind), c.p, c.q, c.r]);
 }
 
 pub fn row_lines<P: Print>(out: &mut Output<'_, P>, res: &[u8], root: usize)
     requires { root < 65536 }
 {
-    let mut r = 1;
-    while r <= root {
+    for r in 1..=root {
         row_line(out, res, r);
-        r += 1;
     }
+}
+
+// A line: a word, and the numbers told of it (`listing::lines::line` writes such a line into bytes).
+pub fn line<P: Print>(out: &mut Output<'_, P>, word: &[u8], numbers: &[usize]) {
+    put(out, word);
+    for &x in numbers {
+        field(out, x);
+    }
+    put(out, b"\n");
 }
 
 // A digit more behind a number; what is past a million stays there.
 fn digit(x: usize, byte: u8) -> usize {
-    if byte < 48 {
-        return x;
+    if x <= 1000000 && byte.is_ascii_digit() {
+        10 * x + usize::from(byte - 48)
+    } else {
+        x
     }
-    if 57 < byte {
-        return x;
-    }
-    if 1000000 < x {
-        return x;
-    }
-    10 * x + (byte - 48) as usize
 }
 
-fn is_digit(byte: u8) -> bool {
-    48 <= byte && byte <= 57
-}
-
-// What a word says of rows: how many, or nothing that is a number.
-#[derive(Clone, Copy)]
-pub enum Rows {
-    Lent(usize),
-    Wrong,
-}
-
-// The number that the bytes write in decimal.
-fn decimal(text: &[u8]) -> Rows {
-    if text.len() == 0 {
-        return Rows::Wrong;
+// The number that the bytes write in decimal, if they do.
+fn decimal(text: &[u8]) -> Option<usize> {
+    if text.is_empty() {
+        return None;
     }
     let mut x = 0;
-    let mut i = 0;
-    while i < text.len() {
-        if !is_digit(text[i]) {
-            return Rows::Wrong;
+    for &byte in text {
+        if !byte.is_ascii_digit() {
+            return None;
         }
-        x = digit(x, text[i]);
-        i += 1;
+        x = digit(x, byte);
     }
-    Rows::Lent(x)
+    Some(x)
 }
 
 // Room for a word, which is no longer than a path is.
@@ -103,13 +88,13 @@ pub fn word() -> [u8; 4096]
     [0; 4096]
 }
 
-// The rows that argument `i` says, or `other` where there is none.
-pub fn rows_argument<R: Env>(rt: &R, i: usize, other: usize) -> Rows {
+// The rows that argument `i` says, or `other` where there is no such argument; none where it is no number.
+pub fn rows_argument<R: Env>(rt: &R, i: usize, other: usize) -> Option<usize> {
     let mut text = word();
     match rt.arg(i, &mut text) {
         Ok(n) => decimal(&text[..n]),
-        Err(FillError::NotPresent) => Rows::Lent(other),
-        Err(FillError::TooLong) => Rows::Wrong,
+        Err(FillError::NotPresent) => Some(other),
+        Err(FillError::TooLong) => None,
     }
 }
 

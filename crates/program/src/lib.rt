@@ -7,7 +7,7 @@ pub mod tell;
 
 ghost use Rattle.std.specs.Prelude.{◌≡◌, ◌<◌, length};
 
-use crate::fields::{Output, Rows};
+use crate::fields::Output;
 use std::env::Env;
 use std::fs::File;
 use std::rt::Files;
@@ -64,10 +64,10 @@ fn answers<R: Input + Print + Eprint>(rt: &R, work: usize, res: usize) -> i32 {
 }
 
 pub fn chukelowa_program_answers<R: Env + Input + Print + Eprint>(rt: &R) -> i32 {
-    let Rows::Lent(work) = crate::fields::rows_argument(rt, 1, 6144) else {
+    let Some(work) = crate::fields::rows_argument(rt, 1, 6144) else {
         return answers_usage(rt);
     };
-    let Rows::Lent(result) = crate::fields::rows_argument(rt, 2, 8192) else {
+    let Some(result) = crate::fields::rows_argument(rt, 2, 8192) else {
         return answers_usage(rt);
     };
     answers(rt, work, result)
@@ -112,10 +112,10 @@ fn cases_usage<R: Eprint>(rt: &R) -> bool {
 fn words<R: Env + Files + Print + Eprint>(rt: &R, at: usize) -> bool
     requires { at < 18446744073709551614 }
 {
-    let Rows::Lent(work) = crate::fields::rows_argument(rt, at + 1, 6144) else {
+    let Some(work) = crate::fields::rows_argument(rt, at + 1, 6144) else {
         return cases_usage(rt);
     };
-    let Rows::Lent(result) = crate::fields::rows_argument(rt, at + 2, 8192) else {
+    let Some(result) = crate::fields::rows_argument(rt, at + 2, 8192) else {
         return cases_usage(rt);
     };
     one(rt, at, work, result)

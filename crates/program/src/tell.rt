@@ -2,92 +2,53 @@
 // N A B` for each type row, then `run N UNITS A B ROOT` with the result's rows, last `apply N CHECK-UNITS RUN-UNITS A B ROOT`.
 ghost use Rattle.std.specs.Prelude.{◌≡◌, ◌*◌, ◌≤◌, length};
 
-use crate::fields::{Output, field, put};
-use bundle::Copied;
-use coded::Coded;
+use crate::fields::{Output, line};
 use std::io;
 use std::io::Read;
 
-fn read_line<P: Print>(out: &mut Output<'_, P>, answer: Coded) {
-    put(out, b"read");
-    field(out, answer.number);
-    put(out, b"\n");
-}
-
-fn fit_line<P: Print>(out: &mut Output<'_, P>, row: usize, answer: Coded) {
-    put(out, b"fit");
-    field(out, row);
-    field(out, answer.number);
-    field(out, answer.a);
-    field(out, answer.b);
-    put(out, b"\n");
-}
-
 fn fit_answers<P: Print>(out: &mut Output<'_, P>, s: &[u8]) {
-    let types = sheet::types_told(s);
-    let mut row = 1;
-    while row <= types {
-        fit_line(out, row, coded::fitted(fit::fit(s, row)));
-        row += 1;
+    for row in 1..=sheet::types_told(s) {
+        let answer = coded::fitted(fit::fit(s, row));
+        line(out, b"fit", &[row, answer.number, answer.a, answer.b]);
     }
-}
-
-fn check_line<P: Print>(out: &mut Output<'_, P>, answer: Coded, units: usize) {
-    put(out, b"check");
-    field(out, answer.number);
-    field(out, units);
-    field(out, answer.a);
-    field(out, answer.b);
-    put(out, b"\n");
 }
 
 fn check_answer<P: Print>(out: &mut Output<'_, P>, s: &[u8], work: &mut [u8]) {
     let answer = desk::check(s, work);
-    check_line(out, coded::checked(answer), coded::check_units(answer));
-}
-
-fn run_line<P: Print>(out: &mut Output<'_, P>, answer: Coded, units: usize, root: usize) {
-    put(out, b"run");
-    field(out, answer.number);
-    field(out, units);
-    field(out, answer.a);
-    field(out, answer.b);
-    field(out, root);
-    put(out, b"\n");
+    let code = coded::checked(answer);
+    line(
+        out,
+        b"check",
+        &[code.number, coded::check_units(answer), code.a, code.b],
+    );
 }
 
 fn run_answer<P: Print>(out: &mut Output<'_, P>, s: &[u8], work: &mut [u8], res: &mut [u8]) {
     let answer = desk::run(s, work, res);
+    let code = coded::ran(answer);
     let root = coded::root(answer);
-    run_line(out, coded::ran(answer), coded::run_units(answer), root);
+    line(
+        out,
+        b"run",
+        &[code.number, coded::run_units(answer), code.a, code.b, root],
+    );
     crate::fields::row_lines(out, res, root);
-}
-
-fn apply_line<P: Print>(
-    out: &mut Output<'_, P>,
-    answer: Coded,
-    check_units: usize,
-    run_units: usize,
-    root: usize,
-) {
-    put(out, b"apply");
-    field(out, answer.number);
-    field(out, check_units);
-    field(out, run_units);
-    field(out, answer.a);
-    field(out, answer.b);
-    field(out, root);
-    put(out, b"\n");
 }
 
 fn apply_answer<P: Print>(out: &mut Output<'_, P>, s: &[u8], work: &mut [u8], res: &mut [u8]) {
     let answer = desk::apply(s, work, res);
-    apply_line(
+    let code = coded::applied(answer);
+    line(
         out,
-        coded::applied(answer),
-        coded::first_units(answer),
-        coded::last_units(answer),
-        coded::applied_root(answer),
+        b"apply",
+        &[
+            code.number,
+            coded::first_units(answer),
+            coded::last_units(answer),
+            code.a,
+            code.b,
+            coded::applied_root(answer),
+        ],
     );
 }
 
@@ -96,7 +57,7 @@ fn lent(rows: usize, most: usize) -> usize
     requires { most ≤ 65536 }
     ensures { result ≤ 8 * most }
 {
-    if rows < most { 8 * rows } else { 8 * most }
+    8 * rows.min(most)
 }
 
 // No run needs more than 6,144 working rows.
@@ -119,6 +80,7 @@ fn check_answers<P: Print>(out: &mut Output<'_, P>, s: &[u8], work: usize) {
     check_answer(out, s, &mut w[..m]);
 }
 
+// Each of the two holds its rows only while its question is asked; a closure in place of the question would be as long.
 fn run_answers<P: Print>(out: &mut Output<'_, P>, s: &[u8], work: usize, res: usize) {
     let mut w = working_rows();
     let mut r = result_rows();
@@ -144,10 +106,10 @@ fn sheet_answers<P: Print>(out: &mut Output<'_, P>, s: &[u8], work: usize, res: 
 
 // The answers to a bundle; so many working rows are lent to its check and its run, and so many result rows.
 fn bundle_answers<P: Print>(out: &mut Output<'_, P>, bundle: &[u8], work: usize, res: usize) {
-    let mut tables = [0u8; 44704];
+    let mut tables = [0u8; bundle::LARGEST];
     let answer = bundle::read(bundle, &mut tables);
-    read_line(out, coded::copied(answer));
-    if let Copied::Done = answer {
+    line(out, b"read", &[coded::copied(answer).number]);
+    if let Ok(()) = answer {
         let need = sheet::need_of(&tables);
         sheet_answers(out, &tables[..need], work, res);
     }

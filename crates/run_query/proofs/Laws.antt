@@ -5,37 +5,63 @@ use mathlib.Core.Path.{◌≡◌, refl, sym, ap, ◌∙◌, subst}
 use mathlib.Core.Bool.{Bool, true, false}
 use mathlib.Core.List.{List}
 use lib.ListN.{length}
+use Rattle.std.specs.Prelude.{Result, Ok, Err}
 use Rattle.meaning.specs.Sheet.{Cells}
 use Rattle.meaning.specs.Kinds.{Query}
 use Rattle.meaning.specs.Tests.{in_table}
-use Rattle.meaning.specs.Forest.{Tree, Forest, only, count, forest_at, text_at, bytes_from, equal_bytes, bool_kind}
+use Rattle.meaning.specs.Forest.{Text, Tree, Forest, nil, only, count, forest_at, text_at, bytes_from, equal_bytes, bool_kind}
 use Rattle.meaning.specs.Walk.{Unasked, Quiet, halt, ret, ◌>>=◌, of_query, stuck}
-use Rattle.meaning.specs.Run.{Seen, a_text, a_bool, seen, inside, branch, same_texts, copied, query_of, each}
+use Rattle.meaning.specs.Run.{Seen, nothing, many, a_text, a_bool, a_node, seen, inside, branch, same_texts, copied, query_of, each}
 use Rattle.meaning.specs.Laws.Walk.{leads_then}
 use Rattle.meaning.specs.Theorems.ReadBack.{lent_row}
 use Rattle.walk.specs.Scope.{value_of, More, scoped_with, env_at}
 use Rattle.walk.specs.Meets.{Roomy, Ready, Finished, Stopped, Meets, met_as, met_of, met_ret, met_then, met_stop, stop_then, stop_leads, stop_stuck, forest_kept}
-use Rattle.walk.specs.Loop.{Links, Turned, Turns, turns_stop, alone, gathered, turn_of, keep_of}
+use Rattle.walk.specs.Loop.{Links, Turned, Turns, alone, gathered, turn_of, keep_of}
 use Rattle.walk.specs.declared.Scope.{Scope}
 use Rattle.walk.specs.declared.Purse.{Purse}
-use Rattle.walk.specs.declared.Answer.{Answer}
-use Rattle.walk.specs.declared.Answer.TheVariants.{Done, Not}
+use Rattle.walk.specs.declared.Concern.TheVariants as concern
+use Rattle.walk.specs.declared.Got.{Got}
 use Rattle.walk.specs.declared.Stop.{Stop}
 use Rattle.walk.specs.declared.Stop.TheVariants.{Stuck}
 use Rattle.forest_rows.specs.Rows.{Pushed, MakeAsks, made, GatherAsks, Gathered}
-use Rattle.forest_rows.specs.Asks.{leaf_asks}
+use Rattle.forest_rows.specs.Asks.{leaf_asks, branch_stuck, Arm, arm_branch}
 use Rattle.forest_rows.specs.Each.{Looping, loop_start, loop_ready, loop_asks, loop_done, loop_falls, loop_stop, loop_more, one_ready, one_stop, one_keep, one_links, one_more}
 use Rattle.walk.specs.Fits.{fits, fits_body, a_place, fits_turn, fits_more}
 use Rattle.run_query.specs.Ask.{pool, Asks, asked, row_asked, body_asked, asked_after, body_after, asked_with}
 
 -- Stuck at a query row
-pub met_stuck : {w : Quiet Forest} {byte : ℕ → ℕ} {used : ℕ} {old new : List ℕ} (at : ℕ) (p : Purse) → w ≡ halt (stuck (of_query at)) → Meets w byte p.left used old new (Not (Stuck at 1 p))
-met_stuck at p h = met_as h (met_stop (stop_stuck at 1 p))
+pub met_stuck : {w : Quiet Forest} {byte : ℕ → ℕ} {used : ℕ} {old new : List ℕ} (at : ℕ) (p : Purse) → w ≡ halt (stuck (of_query at)) → Meets w byte p.left used old new (Err (Stuck (concern.Query at) p))
+met_stuck at p h = met_as h (met_stop (stop_stuck (concern.Query at) p))
 
 -- ---- two texts
 
-pub texts_stuck : {x y u v : Seen} (at : ℕ) → x ≡ u → y ≡ v → same_texts (of_query at) u v ≡ halt (stuck (of_query at)) → same_texts (of_query at) x y ≡ halt (stuck (of_query at))
-texts_stuck {x} {y} {u} {v} at a b h = ap (λ (o : Seen). same_texts (of_query at) o y) a ∙ ap (λ (o : Seen). same_texts (of_query at) u o) b ∙ h
+pub first_stuck : {x : Seen} (y : Seen) (at : ℕ) → ((w : Text) → x ≡ a_text w → ⊥) → same_texts (of_query at) x y ≡ halt (stuck (of_query at))
+unfolding same_texts
+first_stuck {x = nothing} y at h = refl
+first_stuck {x = many} y at h = refl
+first_stuck {x = a_text w} y at h = absurd (h w refl)
+first_stuck {x = a_bool b} y at h = refl
+first_stuck {x = a_node l f} y at h = refl
+
+after_stuck : {y : Seen} (at : ℕ) (w : Text) → ((v : Text) → y ≡ a_text v → ⊥) → same_texts (of_query at) (a_text w) y ≡ halt (stuck (of_query at))
+unfolding same_texts
+after_stuck {y = nothing} at w h = refl
+after_stuck {y = many} at w h = refl
+after_stuck {y = a_text v} at w h = absurd (h v refl)
+after_stuck {y = a_bool b} at w h = refl
+after_stuck {y = a_node l f} at w h = refl
+
+pub second_stuck : {x y : Seen} {w : Text} (at : ℕ) → x ≡ a_text w → ((v : Text) → y ≡ a_text v → ⊥) → same_texts (of_query at) x y ≡ halt (stuck (of_query at))
+second_stuck {y = y} {w} at e h = ap (λ (o : Seen). same_texts (of_query at) o y) e ∙ after_stuck at w h
+
+-- the children of what is no labelled tree
+pub inside_none : {v : Seen} → ((l : ℕ) (f : Forest) → v ≡ a_node l f → ⊥) → inside v ≡ nil
+unfolding inside
+inside_none {v = nothing} h = refl
+inside_none {v = many} h = refl
+inside_none {v = a_text w} h = refl
+inside_none {v = a_bool b} h = refl
+inside_none {v = a_node l f} h = absurd (h l f refl)
 
 leaf_kind : (b : Bool) → in_table 3 (bool_kind b) ≡ true
 leaf_kind true = refl
@@ -52,12 +78,16 @@ made_bool byte rows false = refl
 pub bool_asks : {rows : List ℕ} {used left k : ℕ} (b : Bool) → k ≡ bool_kind b → Roomy rows used left → MakeAsks rows used k 0 0 left
 bool_asks {k = k} b e r = leaf_asks k 0 0 (ap (in_table 3) e ∙ leaf_kind b) r (omega (arith, e, small_kind b)) (omega arith) (omega arith)
 
-pub texts_met : {x y : Seen} {o n p m k left used : ℕ} {new : List ℕ} {b : Bool} {a : Answer} (byte : ℕ → ℕ) (rows : List ℕ) (at : ℕ) → x ≡ a_text (text_at byte o n) → y ≡ a_text (text_at byte p m)
+pub bool_met : {k left used : ℕ} {new : List ℕ} {a : Result Got Stop} (byte : ℕ → ℕ) (rows : List ℕ) (b : Bool) → k ≡ bool_kind b → Meets (made byte rows k 0 0) byte left used rows new a
+    → Meets (copied 1 (only (Tree.bool b))) byte left used rows new a
+bool_met byte rows b kind got = met_as (sym (made_bool byte rows b) ∙ ap (λ (j : ℕ). made byte rows j 0 0) (sym kind)) got
+
+pub texts_met : {x y : Seen} {o n p m k left used : ℕ} {new : List ℕ} {b : Bool} {a : Result Got Stop} (byte : ℕ → ℕ) (rows : List ℕ) (at : ℕ) → x ≡ a_text (text_at byte o n) → y ≡ a_text (text_at byte p m)
     → b ≡ equal_bytes (bytes_from byte o n) (bytes_from byte p m) → k ≡ bool_kind b → Meets (made byte rows k 0 0) byte left used rows new a → Meets (same_texts (of_query at) x y) byte left used rows new a
 unfolding same_texts
-texts_met {x} {y} {o} {n} {p} {m} {k} {b = b} byte rows at ex ey is kind got =
-    met_as (ap (λ (v : Seen). same_texts (of_query at) v y) ex ∙ ap (λ (v : Seen). same_texts (of_query at) (a_text (text_at byte o n)) v) ey
-    ∙ ap (λ (t : Bool). copied 1 (only (Tree.bool t))) (sym is) ∙ sym (made_bool byte rows b) ∙ ap (λ (j : ℕ). made byte rows j 0 0) (sym kind)) got
+texts_met {x} {y} {o} {n} {p} {m} byte rows at ex ey is kind got =
+    met_as (ap (λ (v : Seen). same_texts (of_query at) v y) ex ∙ ap (λ (v : Seen). same_texts (of_query at) (a_text (text_at byte o n)) v) ey)
+    (bool_met byte rows (equal_bytes (bytes_from byte o n) (bytes_from byte p m)) (kind ∙ ap bool_kind is) got)
 
 -- ---- parts: rows and t are the rows before and after the first
 
@@ -76,7 +106,7 @@ module _ (s : List ℕ) (d : ℕ) {rows t : List ℕ} {e : Scope} {used focus le
         let x : Forest = forest_at (pool s) (lent_row t) root in
         stop_leads (leads_then Unasked (λ (x : Forest). asked s rows e d q >>= λ y. k x y) f.settles) (stop_then (k x) (subst (λ (w : Quiet Forest). Stopped w left' why) (first_after q) m))
 
-    pub both_met : {u v : List ℕ} {y m left'' : ℕ} {a : Answer} → Finished (asked s t e d q) (pool s) left' n t u y m left''
+    pub both_met : {u v : List ℕ} {y m left'' : ℕ} {a : Result Got Stop} → Finished (asked s t e d q) (pool s) left' n t u y m left''
         → Meets (k (forest_at (pool s) (lent_row u) root) (forest_at (pool s) (lent_row u) y)) (pool s) left'' m u v a → Meets both (pool s) left used rows v a
     both_met {u} {v} {y} g m =
         let x : Forest = forest_at (pool s) (lent_row t) root in
@@ -87,7 +117,7 @@ module _ (s : List ℕ) (d : ℕ) {rows t : List ℕ} {e : Scope} {used focus le
         (met_then (k x) g (met_as (ap (λ (o : Forest). k o z) (sym same)) m)))
 
   -- a variable more
-  pub let_met : {e' : Scope} {u : List ℕ} {a : Answer} (q : ℕ) → More e e' 1 root → Meets (asked s t e' d q) (pool s) left' n t u a → Meets (row_asked s rows e d 0 (Query.letin p q)) (pool s) left used rows u a
+  pub let_met : {e' : Scope} {u : List ℕ} {a : Result Got Stop} (q : ℕ) → More e e' 1 root → Meets (asked s t e' d q) (pool s) left' n t u a → Meets (row_asked s rows e d 0 (Query.letin p q)) (pool s) left used rows u a
   unfolding query_of
   let_met q m b = met_then (λ (x : Forest). body_asked s rows e d q x) f (met_as (sym (asked_with s rows t ready.roomy.low f.same ready.scoped d q m)) b)
 
@@ -96,33 +126,31 @@ module _ (s : List ℕ) (d : ℕ) {rows t : List ℕ} {e : Scope} {used focus le
     abbrev chosen : Forest → Quiet Forest
     chosen x = branch (of_query at) (seen x) (asked s rows e d q) (asked s rows e d r)
 
-    pub choose_yes : {u : List ℕ} {a : Answer} {b : Bool} → seen (forest_at (pool s) (lent_row t) root) ≡ a_bool b → b ≡ true → Meets (asked s t e d q) (pool s) left' n t u a → Meets (row_asked s rows e d at (Query.if p q r)) (pool s) left used rows u a
-    unfolding query_of branch
-    choose_yes is so m = met_then chosen f (met_as (ap (λ (v : Seen). branch (of_query at) v (asked s rows e d q) (asked s rows e d r)) (is ∙ ap (λ (b : Bool). a_bool b) so) ∙ sym (first_after q)) m)
-
-    pub choose_no : {u : List ℕ} {a : Answer} {b : Bool} → seen (forest_at (pool s) (lent_row t) root) ≡ a_bool b → b ≡ false → Meets (asked s t e d r) (pool s) left' n t u a → Meets (row_asked s rows e d at (Query.if p q r)) (pool s) left used rows u a
-    unfolding query_of branch
-    choose_no is so m = met_then chosen f (met_as (ap (λ (v : Seen). branch (of_query at) v (asked s rows e d q) (asked s rows e d r)) (is ∙ ap (λ (b : Bool). a_bool b) so) ∙ sym (first_after r)) m)
-
-    pub choose_stuck : {v : Seen} → seen (forest_at (pool s) (lent_row t) root) ≡ v → ((y z : Quiet Forest) → branch (of_query at) v y z ≡ halt (stuck (of_query at))) → (pu : Purse) → left' ≡ pu.left
-        → Meets (row_asked s rows e d at (Query.if p q r)) (pool s) left used rows t (Not (Stuck at 1 pu))
+    pub choose_met : {u : List ℕ} {a : Result Got Stop} {b : Bool} {arm : ℕ} → seen (forest_at (pool s) (lent_row t) root) ≡ a_bool b → Arm b q r arm → Meets (asked s t e d arm) (pool s) left' n t u a
+        → Meets (row_asked s rows e d at (Query.if p q r)) (pool s) left used rows u a
     unfolding query_of
-    choose_stuck {v} is halts pu el = met_then chosen f (subst (λ (j : ℕ). Meets (chosen (forest_at (pool s) (lent_row t) root)) (pool s) j n t t (Not (Stuck at 1 pu))) (sym el)
-        (met_stuck at pu (ap (λ (v : Seen). branch (of_query at) v (asked s rows e d q) (asked s rows e d r)) is ∙ halts (asked s rows e d q) (asked s rows e d r))))
+    choose_met {arm = arm} is so m = met_then chosen f (met_as (ap (λ (v : Seen). branch (of_query at) v (asked s rows e d q) (asked s rows e d r)) is
+        ∙ arm_branch (of_query at) (asked s rows e d) so ∙ sym (first_after arm)) m)
+
+    pub choose_stuck : ((b : Bool) → seen (forest_at (pool s) (lent_row t) root) ≡ a_bool b → ⊥) → (pu : Purse) → left' ≡ pu.left
+        → Meets (row_asked s rows e d at (Query.if p q r)) (pool s) left used rows t (Err (Stuck (concern.Query at) pu))
+    unfolding query_of
+    choose_stuck other pu el = met_then chosen f (subst (λ (j : ℕ). Meets (chosen (forest_at (pool s) (lent_row t) root)) (pool s) j n t t (Err (Stuck (concern.Query at) pu))) (sym el)
+        (met_stuck at pu (branch_stuck (of_query at) (asked s rows e d q) (asked s rows e d r) other)))
 
   -- a body on each tree
-  pub for_met : {u : List ℕ} {a : Answer} (q : ℕ) → Meets (each (body_asked s t e d q) (forest_at (pool s) (lent_row t) root)) (pool s) left' n t u a → Meets (row_asked s rows e d 0 (Query.for p q)) (pool s) left used rows u a
+  pub for_met : {u : List ℕ} {a : Result Got Stop} (q : ℕ) → Meets (each (body_asked s t e d q) (forest_at (pool s) (lent_row t) root)) (pool s) left' n t u a → Meets (row_asked s rows e d 0 (Query.for p q)) (pool s) left used rows u a
   unfolding query_of
   for_met q m = met_then (each (body_asked s rows e d q)) f (met_as (ap (λ (b : Forest → Quiet Forest). each b (forest_at (pool s) (lent_row t) root)) (sym (body_after s rows t ready.roomy.low f.same ready.scoped d q))) m)
 
 -- ---- variables
 
 module _ (s : List ℕ) (d at v : ℕ) {rows : List ℕ} {e : Scope} {used focus left r : ℕ} (ready : Ready rows e used focus left) where
-  pub variable_met : (p : Purse) → r ≤ used → r ≡ value_of e v → Meets (row_asked s rows e d at (Query.variable v)) (pool s) p.left used rows rows (Done r used p)
+  pub variable_met : (p : Purse) → r ≤ used → r ≡ value_of e v → Meets (row_asked s rows e d at (Query.variable v)) (pool s) p.left used rows rows (Ok (record { root = r; left = record { used = used; purse = p } }))
   unfolding query_of
   variable_met p h is = met_as (ap (λ (f : Forest). ret f) (env_at (pool s) rows e v ∙ ap (forest_at (pool s) (lent_row rows)) (sym is))) (met_of (met_ret p.left ready.roomy.low h))
 
-  pub children_met : (p : Purse) → r ≤ used → forest_at (pool s) (lent_row rows) r ≡ inside (seen (forest_at (pool s) (lent_row rows) (value_of e v))) → Meets (row_asked s rows e d at (Query.children v)) (pool s) p.left used rows rows (Done r used p)
+  pub children_met : (p : Purse) → r ≤ used → forest_at (pool s) (lent_row rows) r ≡ inside (seen (forest_at (pool s) (lent_row rows) (value_of e v))) → Meets (row_asked s rows e d at (Query.children v)) (pool s) p.left used rows rows (Ok (record { root = r; left = record { used = used; purse = p } }))
   unfolding query_of
   children_met p h is = met_as (ap (λ (f : Forest). ret (inside (seen f))) (env_at (pool s) rows e v) ∙ ap (λ (f : Forest). ret f) (sym is)) (met_of (met_ret p.left ready.roomy.low h))
 
@@ -134,20 +162,20 @@ module _ (s : List ℕ) {rows t : List ℕ} {e e' : Scope} (d body : ℕ) {used 
   turn_asks len =
       let r = one_ready (pool s) left' c a.ready.roomy some a.ready.focus pd is push isrow a.ready.scoped len in
       let fit = fits_turn s d e body a.scope in
-      record { whole = a.whole; ready = record { roomy = r.roomy; scoped = scoped_with r.scoped (a_place a.ready.scoped fit.0) (omega arith) more; focus = omega arith }; scope = fits_more s d e body more fit.1 }
+      record { ready = record { roomy = r.roomy; scoped = scoped_with r.scoped (a_place a.ready.scoped fit.0) (omega arith) more; focus = omega arith }; scope = fits_more s d e body more fit.1 }
 
   turn_body : asked s t e' d body ≡ body_asked s rows e d body (forest_at (pool s) (lent_row t) row)
   turn_body = asked_with s rows t a.ready.roomy.low push.same a.ready.scoped d body more
 
-  pub turn_stop : {why : Stop} {new : List ℕ} {cap : ℕ} (link : ℕ) → Stopped (asked s t e' d body) left' why
-      → Turns (turn_of (body_asked s rows e d body) (alone (forest_at (pool s) (lent_row rows) at)) (forest_at (pool s) (lent_row rows) link)) (pool s) left used cap rows new (Not why)
-  turn_stop link m = turns_stop (one_stop (pool s) left' c a.ready.roomy some a.ready.focus pd is push isrow (body_asked s rows e d body) turn_body (forest_at (pool s) (lent_row rows) link) m)
+  pub turn_stop : {why : Stop} (link : ℕ) → Stopped (asked s t e' d body) left' why
+      → Stopped (turn_of (body_asked s rows e d body) (alone (forest_at (pool s) (lent_row rows) at)) (forest_at (pool s) (lent_row rows) link)) left why
+  turn_stop link m = one_stop (pool s) left' c a.ready.roomy some a.ready.focus pd is push isrow (body_asked s rows e d body) turn_body (forest_at (pool s) (lent_row rows) link) m
 
   module _ {t' : List ℕ} {root n left'' : ℕ} (fin : Finished (asked s t e' d body) (pool s) left' row t t' root n left'') (spare : n + left'' + 1 ≤ row + left') where
     pub turn_keep : (link : ℕ) → link ≤ used → length t' ≡ length rows → (Roomy t' n (left'' + 1)) × (root ≤ n) × (link ≤ n)
     turn_keep link h len = one_keep (pool s) left' c a.ready.roomy some a.ready.focus pd is push isrow (body_asked s rows e d body) turn_body fin spare link h len
 
-    pub turn_more : {u : List ℕ} {x : Answer} (link : ℕ) → link ≤ used → Links (forest_at (pool s) (lent_row rows) link)
+    pub turn_more : {u : List ℕ} {x : Result Got Stop} (link : ℕ) → link ≤ used → Links (forest_at (pool s) (lent_row rows) link)
         → ((byte : ℕ → ℕ) → Links (forest_at byte (lent_row t') link) → Turns (keep_of (forest_at byte (lent_row t') link) (forest_at byte (lent_row t') root)) byte left'' n (n + left'' + 1 + count (gathered (forest_at byte (lent_row t') link))) t' u x)
         → Turns (turn_of (body_asked s rows e d body) (alone (forest_at (pool s) (lent_row rows) at)) (forest_at (pool s) (lent_row rows) link)) (pool s) left used (used + left + count (gathered (forest_at (pool s) (lent_row rows) link))) rows u x
     turn_more link h ls m =
@@ -165,7 +193,7 @@ module _ (s : List ℕ) {rows : List ℕ} {e : Scope} (d body : ℕ) {used over 
 
   module _ {t : List ℕ} {at link n left' : ℕ} (g : Looping (body_asked s rows e d body) (pool s) rows t used over left at link n left') where
     pub each_asks : length t ≡ length rows → Asks s t e n at left' (fits_body s d e body)
-    each_asks len = record { whole = a.whole; ready = loop_ready start (pool s) a.ready.roomy a.ready.focus g a.ready.scoped len; scope = a.scope }
+    each_asks len = record { ready = loop_ready start (pool s) a.ready.roomy a.ready.focus g a.ready.scoped len; scope = a.scope }
 
     pub each_gather : length t ≡ length rows → GatherAsks t n link
     each_gather len = loop_asks start (pool s) a.ready.roomy a.ready.focus g len

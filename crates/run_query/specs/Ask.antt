@@ -1,21 +1,21 @@
 -- What a query asks and what it goes as: the walk of a row in the rows as they are. The scope finds its places by Shape's test (walk/specs/Fits).
-use Rattle.std.specs.Prelude.{ℕ, ◌+◌, ◌-◌, ◌≤◌, ◌<◌, ◌≡◌, refl, Bool, true, List, [], ◌∷◌, ◌++◌, length}
-use Rattle.std.proofs.Common.{sym, ◌∙◌}
+use Rattle.std.specs.Prelude.{ℕ, ◌+◌, ◌-◌, ◌≤◌, ◌<◌, ◌≡◌, refl, Bool, true, List, [], ◌∷◌, ◌++◌, length, Result}
+use Rattle.std.proofs.Common.{arith, sym, ◌∙◌}
 use Rattle.std.proofs.Math.Path.{ap, subst}
-use Rattle.meaning.specs.Sheet.{script_of, grove_of}
-use Rattle.meaning.specs.Kinds.{Query, query_at}
+use Rattle.meaning.specs.Sheet.{Cells, script_of, grove_of}
+use Rattle.meaning.specs.Kinds.{Query, query_form, query_at}
 use Rattle.meaning.specs.Forest.{Forest, forest_at}
 use Rattle.meaning.specs.Walk.{Quiet, tick}
 use Rattle.meaning.specs.Run.{query, query_of}
 use Rattle.meaning.specs.Laws.Rows.{LowRows, SameRows}
 use Rattle.meaning.specs.Theorems.ReadBack.{lent_row}
-use Rattle.sheet.specs.Whole.{Whole}
 use Rattle.walk.specs.Scope.{env_of, Scoped, More, scoped_with, env_same, env_with}
-use Rattle.walk.specs.Fits.{deeper}
+use Rattle.walk.specs.Fits.{deeper, fits, fits_row, fits_form, query_is}
 use Rattle.walk.specs.Meets.{Ready, Finished, Stopped, Meets, Ran, ran_tick, stop_tick, stop_depth, ready_after, ready_less}
 use Rattle.walk.specs.declared.Scope.{Scope}
 use Rattle.walk.specs.declared.Purse.{Purse}
-use Rattle.walk.specs.declared.Answer.{Answer}
+use Rattle.walk.specs.declared.Got.{Got}
+use Rattle.walk.specs.declared.Stop.{Stop}
 use Rattle.walk.specs.declared.Stop.TheVariants.{Fuel, Depth}
 
 -- ---- the walks
@@ -36,27 +36,31 @@ body_asked s rows e d at = λ t. query (script_of s) (pool s) d (env_of (pool s)
 -- ---- what an evaluator asks
 
 pub record Asks (s : List ℕ) (rows : List ℕ) (e : Scope) (used focus left : ℕ) (fit : Bool) : Type 0 where
-  pub whole : Whole s
   pub ready : Ready rows e used focus left
   pub scope : fit ≡ true
 
 module _ {s : List ℕ} {rows : List ℕ} {e : Scope} {used focus left : ℕ} {fit : Bool} (a : Asks s rows e used focus left fit) where
   -- a part, at once
   pub asks_part : {fit' : Bool} → fit' ≡ true → Asks s rows e used focus left fit'
-  asks_part h = record { whole = a.whole; ready = a.ready; scope = h }
+  asks_part h = record { ready = a.ready; scope = h }
 
   -- with units paid
   pub asks_less : {fit' : Bool} (left' n focus' : ℕ) → left' + n ≡ left → focus' ≤ used → fit' ≡ true → Asks s rows e used focus' left' fit'
-  asks_less left' n focus' p h f = record { whole = a.whole; ready = ready_less left' n focus' a.ready p h; scope = f }
+  asks_less left' n focus' p h f = record { ready = ready_less left' n focus' a.ready p h; scope = f }
 
   -- from where an evaluator left off
   pub asks_after : {w : Quiet Forest} {byte : ℕ → ℕ} {t : List ℕ} {fit' : Bool} {root used' left' : ℕ} (focus' : ℕ) → length t ≡ length rows → Finished w byte left used rows t root used' left'
       → focus' ≤ used' → fit' ≡ true → Asks s t e used' focus' left' fit'
-  asks_after focus' n f h g = record { whole = a.whole; ready = ready_after focus' a.ready n f h; scope = g }
+  asks_after focus' n f h g = record { ready = ready_after focus' a.ready n f h; scope = g }
 
   -- with a place more
   pub asks_with : {e' : Scope} {fit' : Bool} {k v : ℕ} → More e e' k v → e.count < 16 → v ≤ used → fit' ≡ true → Asks s rows e' used focus left fit'
-  asks_with {e'} m h i g = record { whole = a.whole; ready = record { roomy = a.ready.roomy; scoped = scoped_with a.ready.scoped h i m; focus = a.ready.focus }; scope = g }
+  asks_with {e'} m h i g = record { ready = record { roomy = a.ready.roomy; scoped = scoped_with a.ready.scoped h i m; focus = a.ready.focus }; scope = g }
+
+-- by what a row says, with a level of depth and a unit less
+pub asks_row : {s rows : List ℕ} {e : Scope} {d used left left' : ℕ} (at : ℕ) {c : Cells} {form : Query} → (d ≡ 0 → ⊥) → c ≡ (script_of s).query_row at → form ≡ query_form c → left' + 1 ≡ left
+    → Asks s rows e used 0 left (fits s d e at) → Asks s rows e used 0 left' (fits_row s (d - 1) e form)
+asks_row {s} {e = e} {d} {left' = left'} at some is says paid a = asks_less a left' 1 0 paid (omega arith) (fits_form s e d at some (query_is s at is says) a.scope)
 
 -- ---- what a row says
 
@@ -65,7 +69,7 @@ module _ (s : List ℕ) (e : Scope) (d at : ℕ) {form : Query} (some : d ≡ 0 
   unfolding query
   asked_is rows = ap (λ (n : ℕ). asked s rows e n at) (deeper d some) ∙ ap (λ (x : Query). tick (row_asked s rows e (d - 1) at x)) is
 
-  pub ask_as : {rows new : List ℕ} {left' used : ℕ} {a : Answer} (left : ℕ) → left' + 1 ≡ left → Meets (row_asked s rows e (d - 1) at form) (pool s) left' used rows new a
+  pub ask_as : {rows new : List ℕ} {left' used : ℕ} {a : Result Got Stop} (left : ℕ) → left' + 1 ≡ left → Meets (row_asked s rows e (d - 1) at form) (pool s) left' used rows new a
       → Ran (asked s rows e d at) (pool s) left used rows new a
   ask_as {rows} {new} {left'} {used} {a} left p m = subst (λ (w : Quiet Forest). Ran w (pool s) left used rows new a) (sym (asked_is rows)) (ran_tick left p m)
 

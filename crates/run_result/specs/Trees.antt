@@ -1,5 +1,5 @@
 -- The forest at a row, by its first tree: its rows are those of the rest, those of that tree's children, and the tree's own.
-use Prim.Native.Nat.{ℕ, zero, suc, ◌+◌, ◌≤◌, ◌<◌}
+use Prim.Native.Nat.{ℕ, zero, suc, ◌+◌, ◌<◌}
 use Rattle.std.specs.Prelude.{◌≡◌, Bool, true, false, cond, List, [], ◌∷◌, ◌++◌, get_or}
 use Rattle.std.proofs.Math.Path.{refl, ap}
 use Rattle.std.proofs.Common.{sym, ◌∙◌, arith}
@@ -44,13 +44,6 @@ tree_row c q next = get_or (
     ∷ record { kind = 2; p = 0; q = 0; r = next }
     ∷ record { kind = 3; p = 0; q = 0; r = next }
     ∷ []) c.kind (record { kind = 4; p = c.p; q = q; r = next })
-
-pub row_bool : (c : Cells) (k q next : ℕ) → c.kind ≡ k → 2 ≤ k → k ≤ 3 → tree_row c q next ≡ record { kind = k; p = 0; q = 0; r = next }
-row_bool c zero q next e a b = absurd (omega arith)
-row_bool c (suc zero) q next e a b = absurd (omega arith)
-row_bool c (suc (suc zero)) q next e a b = rw e
-row_bool c (suc (suc (suc zero))) q next e a b = rw e
-row_bool c (suc (suc (suc (suc k)))) q next e a b = absurd (omega arith)
 
 pub row_node : (c : Cells) (k q next : ℕ) → c.kind ≡ k → in_table 3 k ≡ false
     → tree_row c q next ≡ record { kind = 4; p = c.p; q = q; r = next }

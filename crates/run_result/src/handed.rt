@@ -4,31 +4,23 @@ ghost use Rattle.meaning.specs.Words.{rows_lent};
 ghost use Rattle.forest_rows.specs.Rows.{Readable};
 ghost use Rattle.run_result.specs.Hands.{HandsOut};
 
-// Too few rows are lent, or so many are written.
-#[derive(Clone, Copy)]
-pub enum Handed {
-    Room,
-    Rows(usize),
-}
-
 // The rows that a lent slice counts for.
 pub fn rows_lent(b: &[u8]) -> usize
     ensures { result ≡ rows_lent b.now }
 {
-    let n = b.len() / 8;
-    if n < 65535 { n } else { 65535 }
+    (b.len() / 8).min(65535)
 }
 
-// The forest at row `root` of the working rows, from row 1 of the result on.
-pub fn hand_out(work: &[u8], root: usize, res: &mut [u8]) -> Handed
+// The forest at row `root` of the working rows, from row 1 of the result on: how many rows it takes, none where fewer are lent.
+pub fn hand_out(work: &[u8], root: usize, res: &mut [u8]) -> Option<usize>
     requires { Readable work.now root }
     ensures { HandsOut work.now root res.old res.new result }
 {
     let room = rows_lent(res);
     let n = crate::count(work, root, 0, room);
     if room < n {
-        return Handed::Room;
+        return None;
     }
     crate::write(work, root, n, res);
-    Handed::Rows(n)
+    Some(n)
 }

@@ -1,4 +1,5 @@
 // A run's result as rows: counted as far as there is room, then written from its last row down to its first. Only nesting takes stack.
+// Its loops walk along rows, each of which names the next: no index is counted. Row 0 is the empty forest, as document 01 has it.
 #![tactic(auto)]
 
 pub mod handed;
@@ -11,16 +12,16 @@ ghost use Rattle.run_result.specs.Replaced.{replaced};
 ghost use Rattle.run_result.specs.Written.{Writable, Written};
 
 use sheet::Row;
+use sheet::forms::Tree;
 use words::put_word;
 
-// The row of a tree's first child, 0 where it has none: kinds 1 to 3 are texts and bools.
+// The row of a tree's first child, 0 where it has none: so texts and bools.
 fn child(c: Row) -> usize
     ensures { result ≡ child_of (cells_of c) }
 {
-    let kind = c.kind;
-    match kind {
-        1..=3 => 0,
-        0 | 4..=65535 => c.q,
+    match c.as_tree() {
+        Tree::Node(_, q) => q,
+        _ => 0,
     }
 }
 
@@ -48,7 +49,8 @@ pub fn count(work: &[u8], root: usize, n: usize, room: usize) -> usize
     k
 }
 
-// Writes one row behind `n` rows.
+// Writes one row behind `n` rows: any words, where `forest_rows::push` asks that they are words. The kind is the number in the row,
+// which the C interface hands out.
 fn put_row(res: &mut [u8], n: usize, kind: usize, p: usize, q: usize, next: usize)
     requires { 8 * (n + 1) ≤ length res.old }
     ensures { res.new ≡ replaced n (record { kind = kind; p = p; q = q; r = next } ∷ []) (n + 1) res.old }
@@ -65,11 +67,11 @@ fn put_tree(res: &mut [u8], n: usize, c: Row, q: usize, next: usize)
     requires { 8 * (n + 1) ≤ length res.old }
     ensures { res.new ≡ replaced n (tree_row (cells_of c) q next ∷ []) (n + 1) res.old }
 {
-    let kind = c.kind;
-    match kind {
-        1 => put_row(res, n, 1, c.p, c.q, next),
-        2..=3 => put_row(res, n, kind as usize, 0, 0, next),
-        0 | 4..=65535 => put_row(res, n, 4, c.p, q, next),
+    match c.as_tree() {
+        Tree::Text(offset, size) => put_row(res, n, 1, offset, size, next),
+        Tree::Bool(false) => put_row(res, n, 2, 0, 0, next),
+        Tree::Bool(true) => put_row(res, n, 3, 0, 0, next),
+        Tree::Node(label, _) => put_row(res, n, 4, label, q, next),
     }
 }
 
@@ -77,10 +79,7 @@ fn put_tree(res: &mut [u8], n: usize, c: Row, q: usize, next: usize)
 fn root_row(r: usize, last: usize) -> usize
     ensures { result ≡ root_of r last }
 {
-    if r == 0 {
-        return 0;
-    }
-    last
+    if r == 0 { 0 } else { last }
 }
 
 // Writes the forest at row `root` from row `last` down: its first tree, that tree's children, the rest. Hands back the row below them.

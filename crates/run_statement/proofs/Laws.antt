@@ -1,132 +1,91 @@
 -- A law for each way in which an evaluator of the cycle makes its answer: a part, a place more, a condition, a test, a side, a call, a turn, the loop.
-use Prim.Native.Nat.{ℕ, zero, suc, ◌≤◌}
+use Prim.Native.Nat.{ℕ}
+use Rattle.std.specs.Prelude.{Result, Ok, Err, IsErrAnd}
 use native.Mathlib.Omega.{arith}
 use mathlib.Core.Path.{◌≡◌, refl, sym, ap, ◌∙◌, subst}
 use mathlib.Core.Bool.{Bool, true, false, ◌&&◌}
 use mathlib.Core.List.{List, [], ◌∷◌, ◌++◌}
 use borrow.Author.Tests.{eq-eqb, ne_eqb}
 use lib.Dec.{eqb}
+use Rattle.std.specs.Prelude.{cond}
 use Rattle.meaning.specs.Sheet.{Cells, script_of}
-use Rattle.meaning.specs.Kinds.{Statement, Test, test_form, present}
-use Rattle.meaning.specs.Forest.{Text, Tree, Forest, nil, only}
+use Rattle.meaning.specs.Kinds.{Statement, present}
+use Rattle.meaning.specs.Forest.{Tree, Forest, nil, only, forest_at}
 use Rattle.meaning.specs.Shape.{Holds, a_forest, arguments_scope, parameters_scope, query_scoped, statement_scope, statement_scoped}
 use Rattle.meaning.specs.Walk.{Quiet, halt, ret, ◌>>=◌, of_statement, stuck}
-use Rattle.meaning.specs.Run.{Seen, a_text, a_bool, a_node, nothing, many, seen, tested, branch, insert_of, test_of, children_of, arguments, copied, query, statement, statement_of}
+use Rattle.meaning.specs.Run.{Seen, a_text, a_bool, a_node, nothing, many, seen, tested, branch, insert_of, rename_of, test_of, children_of, arguments, copied, query, statement, statement_of}
 use Rattle.meaning.specs.Run as meaning
 use Rattle.meaning.specs.Laws.Bools.{and_left, and_right}
 use Rattle.meaning.specs.Laws.Rows.{LowRows, SameRows, forest_at_zero}
 use Rattle.meaning.specs.Laws.Walk.{then_assoc}
 use Rattle.meaning.specs.Theorems.ReadBack.{lent_row}
+use Rattle.sheet.specs.Forms.{test_said}
+use Rattle.sheet.specs.declared.forms.Test as forms
 use Rattle.walk.specs.Scope.{Fresh, More, Scoped, env_of, env_with, env_fresh}
-use Rattle.walk.specs.Meets.{Ready, Finished, Stopped, Meets, met_as, met_of, met_ret, met_then, met_stop, stop_then, stop_stuck, forest_kept}
+use Rattle.walk.specs.Meets.{Ready, Finished, Stopped, Meets, met_as, met_of, met_ret, met_then, met_stop, met_exit, stop_then, stop_stuck, forest_kept}
 use Rattle.walk.specs.declared.Scope.{Scope}
 use Rattle.walk.specs.declared.Purse.{Purse}
-use Rattle.walk.specs.declared.Answer.{Answer}
-use Rattle.walk.specs.declared.Answer.TheVariants.{Done, Not}
+use Rattle.walk.specs.declared.Concern.TheVariants as concern
+use Rattle.walk.specs.declared.Got.{Got}
 use Rattle.walk.specs.declared.Stop.{Stop}
 use Rattle.walk.specs.declared.Stop.TheVariants.{Stuck}
-use Rattle.forest_rows.specs.Rows.{Pushed, made}
+use Rattle.forest_rows.specs.Rows.{Pushed, Sees, made}
+use Rattle.forest_rows.specs.declared.Seen as looks
+use Rattle.forest_rows.specs.Asks.{Arm, arm_branch, branch_stuck}
 use Rattle.forest_rows.specs.Each.{Looping}
 use Rattle.forest_rows.specs.Table.{read_forest, forest_none}
 use Rattle.walk.specs.Fits as walk
-use Rattle.walk.specs.Fits.{fourteen_up, shape_of, held, shape_with}
+use Rattle.walk.specs.Fits.{shape_of, held, shape_with}
 use Rattle.run_query.specs.Ask.{pool, asked, env_after, asked_after}
-use Rattle.run_statement.specs.Edit.{fits, fits_row, on, went, row_went, body_went, fate_of}
+use Rattle.run_statement.specs.Edit.{fits, fits_row, on, went, row_went, body_went, fate_of, fate_told}
 use Rattle.run_statement.specs.declared.Fate.{Fate}
 use Rattle.run_statement.specs.declared.Fate.TheVariants.{Misfit, Matched, Passed}
 
 -- Stuck at a statement row
-pub met_stuck : {w : Quiet Forest} {byte : ℕ → ℕ} {used : ℕ} {old new : List ℕ} (at : ℕ) (p : Purse) → w ≡ halt (stuck (of_statement at)) → Meets w byte p.left used old new (Not (Stuck at 2 p))
-met_stuck at p h = met_as h (met_stop (stop_stuck at 2 p))
+pub met_stuck : {w : Quiet Forest} {byte : ℕ → ℕ} {used : ℕ} {old new : List ℕ} (at : ℕ) (p : Purse) → w ≡ halt (stuck (of_statement at)) → Meets w byte p.left used old new (Err (Stuck (concern.Statement at) p))
+met_stuck at p h = met_as h (met_stop (stop_stuck (concern.Statement at) p))
 
--- kinds that no statement has
-pub fifteen_up : {k : ℕ} → (k ≡ 0 → ⊥) → (k ≡ 1 → ⊥) → (k ≡ 2 → ⊥) → (k ≡ 3 → ⊥) → (k ≡ 4 → ⊥) → (k ≡ 5 → ⊥) → (k ≡ 6 → ⊥) → (k ≡ 7 → ⊥) → (k ≡ 8 → ⊥) → (k ≡ 9 → ⊥) → (k ≡ 10 → ⊥) → (k ≡ 11 → ⊥) → (k ≡ 12 → ⊥) → (k ≡ 13 → ⊥) → (k ≡ 14 → ⊥) → 15 ≤ k
-fifteen_up a b c d e f g h i j k l m n o = last (fourteen_up a b c d e f g h i j k l m n) o
-  where
-    last : {k : ℕ} → 14 ≤ k → (k ≡ 14 → ⊥) → 15 ≤ k
-    last h o = omega arith
+-- ---- a test
 
--- ---- a test, by its first word
+labelled : (b : Bool) → fate_of (cond b Matched Passed) ≡ meaning.if_so b
+labelled true = refl
+labelled false = refl
 
-test_other : (p q : ℕ) → (p ≡ 1 → ⊥) → (p ≡ 2 → ⊥) → test_form p q ≡ Test.any
-test_other zero q a b = refl
-test_other (suc zero) q a b = absurd (a refl)
-test_other (suc (suc zero)) q a b = absurd (b refl)
-test_other (suc (suc (suc p))) q a b = refl
+pub fate_is : {byte : ℕ → ℕ} {rows : List ℕ} {root : ℕ} (a : looks.Seen) (t : forms.Test) → Sees byte rows root a → fate_of (fate_told a t) ≡ tested (test_said t) (seen (forest_at byte (lent_row rows) root))
+unfolding tested
+fate_is looks.Seen.Nothing forms.Test.Text m = rw m.by refl
+fate_is looks.Seen.Nothing (forms.Test.Label l) m = rw m.by refl
+fate_is looks.Seen.Nothing forms.Test.Any m = rw m.by refl
+fate_is looks.Seen.Many forms.Test.Text m = rw m.by refl
+fate_is looks.Seen.Many (forms.Test.Label l) m = rw m.by refl
+fate_is looks.Seen.Many forms.Test.Any m = rw m.by refl
+fate_is (looks.Seen.Text o n) forms.Test.Text m = rw m.by.is refl
+fate_is (looks.Seen.Text o n) (forms.Test.Label l) m = rw m.by.is refl
+fate_is (looks.Seen.Text o n) forms.Test.Any m = rw m.by.is refl
+fate_is (looks.Seen.Bool b) forms.Test.Text m = rw m.by refl
+fate_is (looks.Seen.Bool b) (forms.Test.Label l) m = rw m.by refl
+fate_is (looks.Seen.Bool b) forms.Test.Any m = rw m.by refl
+fate_is (looks.Seen.Node n c) forms.Test.Text m = rw m.by.is refl
+fate_is (looks.Seen.Node n c) (forms.Test.Label l) m = rw m.by.is (labelled (eqb n l))
+fate_is (looks.Seen.Node n c) forms.Test.Any m = rw m.by.is refl
 
-test_one : (p q : ℕ) → p ≡ 1 → test_form p q ≡ Test.text
-test_one p q e = ap (λ (x : ℕ). test_form x q) e
+-- ---- what is no labelled tree
 
-test_two : (p q : ℕ) → p ≡ 2 → test_form p q ≡ Test.label q
-test_two p q e = ap (λ (x : ℕ). test_form x q) e
+pub rename_none : {v : Seen} (at label : ℕ) → ((n : ℕ) (f : Forest) → v ≡ a_node n f → ⊥) → rename_of (of_statement at) label v ≡ halt (stuck (of_statement at))
+unfolding rename_of
+rename_none {v = nothing} at label h = refl
+rename_none {v = many} at label h = refl
+rename_none {v = a_text w} at label h = refl
+rename_none {v = a_bool b} at label h = refl
+rename_none {v = a_node n f} at label h = absurd (h n f refl)
 
-module _ {v : Seen} (p q : ℕ) where
-  test_by : {w : Seen} (t : Test) → test_form p q ≡ t → v ≡ w → tested (test_form p q) v ≡ tested t w
-  test_by {w} t e f = ap (λ (x : Test). tested x v) e ∙ ap (tested t) f
-
-  -- every test asks for one tree
-  pub fate_nothing : v ≡ nothing → meaning.misfit ≡ tested (test_form p q) v
-  unfolding tested
-  fate_nothing f = go p
-    where
-      go : (p : ℕ) → meaning.misfit ≡ tested (test_form p q) v
-      go zero = sym (ap (tested Test.any) f)
-      go (suc zero) = sym (ap (tested Test.text) f)
-      go (suc (suc zero)) = sym (ap (tested (Test.label q)) f)
-      go (suc (suc (suc p))) = sym (ap (tested Test.any) f)
-
-  pub fate_many : v ≡ many → meaning.misfit ≡ tested (test_form p q) v
-  unfolding tested
-  fate_many f = go p
-    where
-      go : (p : ℕ) → meaning.misfit ≡ tested (test_form p q) v
-      go zero = sym (ap (tested Test.any) f)
-      go (suc zero) = sym (ap (tested Test.text) f)
-      go (suc (suc zero)) = sym (ap (tested (Test.label q)) f)
-      go (suc (suc (suc p))) = sym (ap (tested Test.any) f)
-
-  pub fate_text : {w : Text} → v ≡ a_text w → (p ≡ 2 → ⊥) → meaning.matched ≡ tested (test_form p q) v
-  unfolding tested
-  fate_text {w} f h = go p h
-    where
-      go : (p : ℕ) → (p ≡ 2 → ⊥) → meaning.matched ≡ tested (test_form p q) v
-      go zero h = sym (ap (tested Test.any) f)
-      go (suc zero) h = sym (ap (tested Test.text) f)
-      go (suc (suc zero)) h = absurd (h refl)
-      go (suc (suc (suc p))) h = sym (ap (tested Test.any) f)
-
-  pub fate_text_label : {w : Text} → v ≡ a_text w → p ≡ 2 → meaning.passed ≡ tested (test_form p q) v
-  unfolding tested
-  fate_text_label {w} f e = sym (test_by (Test.label q) (test_two p q e) f)
-
-  pub fate_bool_text : {b : Bool} → v ≡ a_bool b → p ≡ 1 → meaning.passed ≡ tested (test_form p q) v
-  unfolding tested
-  fate_bool_text {b} f e = sym (test_by Test.text (test_one p q e) f)
-
-  pub fate_bool_label : {b : Bool} → v ≡ a_bool b → p ≡ 2 → meaning.passed ≡ tested (test_form p q) v
-  unfolding tested
-  fate_bool_label {b} f e = sym (test_by (Test.label q) (test_two p q e) f)
-
-  pub fate_bool : {b : Bool} → v ≡ a_bool b → (p ≡ 1 → ⊥) → (p ≡ 2 → ⊥) → meaning.matched ≡ tested (test_form p q) v
-  unfolding tested
-  fate_bool {b} f g h = sym (test_by Test.any (test_other p q g h) f)
-
-  module _ {n : ℕ} {k : Forest} (f : v ≡ a_node n k) where
-    pub fate_node_text : p ≡ 1 → meaning.passed ≡ tested (test_form p q) v
-    unfolding tested
-    fate_node_text e = sym (test_by Test.text (test_one p q e) f)
-
-    pub fate_node : (p ≡ 1 → ⊥) → (p ≡ 2 → ⊥) → meaning.matched ≡ tested (test_form p q) v
-    unfolding tested
-    fate_node g h = sym (test_by Test.any (test_other p q g h) f)
-
-    pub fate_label : p ≡ 2 → n ≡ q → meaning.matched ≡ tested (test_form p q) v
-    unfolding tested
-    fate_label e i = sym (test_by (Test.label q) (test_two p q e) f ∙ ap meaning.if_so (eq-eqb n q i))
-
-    pub fate_other : p ≡ 2 → (n ≡ q → ⊥) → meaning.passed ≡ tested (test_form p q) v
-    unfolding tested
-    fate_other e i = sym (test_by (Test.label q) (test_two p q e) f ∙ ap meaning.if_so (ne_eqb n q i))
+children_none : {v : Seen} (at : ℕ) (k : Forest → Quiet Forest) → ((n : ℕ) (f : Forest) → v ≡ a_node n f → ⊥) → children_of (of_statement at) v k ≡ halt (stuck (of_statement at))
+unfolding children_of
+children_none {v = nothing} at k h = refl
+children_none {v = many} at k h = refl
+children_none {v = a_text w} at k h = refl
+children_none {v = a_bool b} at k h = refl
+children_none {v = a_node n f} at k h = absurd (h n f refl)
 
 -- ---- parts: rows and t are the rows before and after the first
 
@@ -138,25 +97,25 @@ module _ (s : List ℕ) (d : ℕ) {rows : List ℕ} {e : Scope} {used focus left
   before = on s rows focus
 
   -- the focus as a variable
-  pub snapshot_met : {e' : Scope} {u : List ℕ} {a : Answer} (p : ℕ) → More e e' 1 focus → Meets (went s rows e' d p focus) (pool s) left used rows u a → Meets (row_went s rows e d 0 (Statement.snapshot p) focus) (pool s) left used rows u a
+  pub snapshot_met : {e' : Scope} {u : List ℕ} {a : Result Got Stop} (p : ℕ) → More e e' 1 focus → Meets (went s rows e' d p focus) (pool s) left used rows u a → Meets (row_went s rows e d 0 (Statement.snapshot p) focus) (pool s) left used rows u a
   unfolding statement_of
   snapshot_met p m b = met_as (ap (λ (γ : List Forest). go γ p before) (sym (env_with (pool s) rows m))) b
 
   -- a test
-  module _ {f : Fate} (at p q r : ℕ) (is : fate_of f ≡ tested (test_form p q) (seen (on s rows focus))) where
-    test_is : {g : Fate} → f ≡ g → test_of (of_statement at) (fate_of g) before (go (env_of (pool s) rows e) r) ≡ row_went s rows e d at (Statement.test (test_form p q) r) focus
+  module _ {f : Fate} (at : ℕ) (t : forms.Test) (r : ℕ) (is : fate_of f ≡ tested (test_said t) (seen (on s rows focus))) where
+    test_is : {g : Fate} → f ≡ g → test_of (of_statement at) (fate_of g) before (go (env_of (pool s) rows e) r) ≡ row_went s rows e d at (Statement.test (test_said t) r) focus
     unfolding statement_of
     test_is {g} h = ap (λ (v : meaning.Fate). test_of (of_statement at) v before (go (env_of (pool s) rows e) r)) (sym (ap fate_of h) ∙ is)
 
-    pub test_misfit : {old new : List ℕ} {byte : ℕ → ℕ} {n : ℕ} (pu : Purse) → f ≡ Misfit → Meets (row_went s rows e d at (Statement.test (test_form p q) r) focus) byte pu.left n old new (Not (Stuck at 2 pu))
+    pub test_misfit : {old new : List ℕ} {byte : ℕ → ℕ} {n : ℕ} (pu : Purse) → f ≡ Misfit → Meets (row_went s rows e d at (Statement.test (test_said t) r) focus) byte pu.left n old new (Err (Stuck (concern.Statement at) pu))
     unfolding test_of
     test_misfit pu h = met_stuck at pu (sym (test_is h))
 
-    pub test_matched : {byte : ℕ → ℕ} {old new : List ℕ} {m n : ℕ} {a : Answer} → f ≡ Matched → Meets (went s rows e d r focus) byte m n old new a → Meets (row_went s rows e d at (Statement.test (test_form p q) r) focus) byte m n old new a
+    pub test_matched : {byte : ℕ → ℕ} {old new : List ℕ} {m n : ℕ} {a : Result Got Stop} → f ≡ Matched → Meets (went s rows e d r focus) byte m n old new a → Meets (row_went s rows e d at (Statement.test (test_said t) r) focus) byte m n old new a
     unfolding test_of
     test_matched h b = met_as (sym (test_is h)) b
 
-    pub test_passed : f ≡ Passed → (pu : Purse) → Meets (row_went s rows e d at (Statement.test (test_form p q) r) focus) (pool s) pu.left used rows rows (Done focus used pu)
+    pub test_passed : f ≡ Passed → (pu : Purse) → Meets (row_went s rows e d at (Statement.test (test_said t) r) focus) (pool s) pu.left used rows rows (Ok (record { root = focus; left = record { used = used; purse = pu } }))
     unfolding test_of
     test_passed h pu = met_as (sym (test_is h)) (met_of (met_ret pu.left ready.roomy.low ready.focus))
 
@@ -166,15 +125,16 @@ module _ (s : List ℕ) (d : ℕ) {rows : List ℕ} {e : Scope} {used focus left
     unfolding statement_of
     children_is = ap (λ (x : Seen). children_of (of_statement at) x (go (env_of (pool s) rows e) p)) (sym is)
 
-    pub children_stuck : {byte : ℕ → ℕ} {n : ℕ} {old new : List ℕ} (pu : Purse) → children_of (of_statement at) v (go (env_of (pool s) rows e) p) ≡ halt (stuck (of_statement at)) → Meets (row_went s rows e d at (Statement.children p) focus) byte pu.left n old new (Not (Stuck at 2 pu))
-    children_stuck pu h = met_stuck at pu (sym children_is ∙ h)
+  module _ (at p : ℕ) (other : (n : ℕ) (f : Forest) → seen (on s rows focus) ≡ a_node n f → ⊥) where
+    pub children_stuck : {byte : ℕ → ℕ} {n : ℕ} {old new : List ℕ} (pu : Purse) → Meets (row_went s rows e d at (Statement.children p) focus) byte pu.left n old new (Err (Stuck (concern.Statement at) pu))
+    children_stuck pu = met_stuck at pu (sym (children_is at p refl) ∙ children_none at (go (env_of (pool s) rows e) p) other)
 
   module _ (at p : ℕ) {label : ℕ} (c : ℕ) (is : seen (on s rows focus) ≡ a_node label (on s rows c)) where
     pub children_stop : {why : Stop} → Stopped (went s rows e d p c) left why → Stopped (row_went s rows e d at (Statement.children p) focus) left why
     unfolding children_of
     children_stop {why} m = subst (λ (w : Quiet Forest). Stopped w left why) (children_is at p is) (stop_then (λ (x : Forest). copied 1 (only (Tree.node label x))) m)
 
-    pub children_met : {t u : List ℕ} {root n left' : ℕ} {a : Answer} → Finished (went s rows e d p c) (pool s) left used rows t root n left' → Meets (made (pool s) t 4 label root) (pool s) left' n t u a → Meets (row_went s rows e d at (Statement.children p) focus) (pool s) left used rows u a
+    pub children_met : {t u : List ℕ} {root n left' : ℕ} {a : Result Got Stop} → Finished (went s rows e d p c) (pool s) left used rows t root n left' → Meets (made (pool s) t 4 label root) (pool s) left' n t u a → Meets (row_went s rows e d at (Statement.children p) focus) (pool s) left used rows u a
     unfolding children_of
     children_met f m = met_as (sym (children_is at p is)) (met_then (λ (x : Forest). copied 1 (only (Tree.node label x))) f m)
 
@@ -203,18 +163,18 @@ module _ (s : List ℕ) (d : ℕ) {rows : List ℕ} {e : Scope} {used focus left
     went_env : (e' : Scope) (γ : List Forest) (q : ℕ) → env_of (pool s) t e' ≡ γ → went s t e' d q focus ≡ go γ q before
     went_env e' γ q h = ap (λ (γ : List Forest). go γ q (on s t focus)) h ∙ ap (go γ q) focus_kept
 
-  pub beside_met : {t u : List ℕ} {root n left' : ℕ} {a : Answer} (p : ℕ) (k : Forest → Forest → Quiet Forest) → Finished (went s rows e d p 0) (pool s) left used rows t root n left' → Meets (k (on s t root) (on s t focus)) (pool s) left' n t u a → Meets (beside p k) (pool s) left used rows u a
+  pub beside_met : {t u : List ℕ} {root n left' : ℕ} {a : Result Got Stop} (p : ℕ) (k : Forest → Forest → Quiet Forest) → Finished (went s rows e d p 0) (pool s) left used rows t root n left' → Meets (k (on s t root) (on s t focus)) (pool s) left' n t u a → Meets (beside p k) (pool s) left used rows u a
   beside_met {t} {root = root} p k f m = met_as (sym (beside_is p k)) (met_then (λ (x : Forest). k x before) f (met_as (ap (k (on s t root)) (sym (focus_kept f))) m))
 
   -- two statements
-  pub then_met : {t u : List ℕ} {root n left' : ℕ} {a : Answer} (p q : ℕ) → Finished (went s rows e d p focus) (pool s) left used rows t root n left' → Meets (went s t e d q root) (pool s) left' n t u a → Meets (row_went s rows e d 0 (Statement.then p q) focus) (pool s) left used rows u a
+  pub then_met : {t u : List ℕ} {root n left' : ℕ} {a : Result Got Stop} (p q : ℕ) → Finished (went s rows e d p focus) (pool s) left used rows t root n left' → Meets (went s t e d q root) (pool s) left' n t u a → Meets (row_went s rows e d 0 (Statement.then p q) focus) (pool s) left used rows u a
   unfolding statement_of
   then_met {t} {root = root} p q f m = met_then (go (env_of (pool s) rows e) q) f (met_as (ap (λ (γ : List Forest). go γ q (on s t root)) (sym (env_kept f))) m)
 
   -- after a query
   module _ {t : List ℕ} {root n left' : ℕ} (p : ℕ) (f : Finished (asked s rows e d p) (pool s) left used rows t root n left') where
     -- a variable more
-    pub let_met : {e' : Scope} {u : List ℕ} {a : Answer} (q : ℕ) → More e e' 1 root → Meets (went s t e' d q focus) (pool s) left' n t u a → Meets (row_went s rows e d 0 (Statement.letin p q) focus) (pool s) left used rows u a
+    pub let_met : {e' : Scope} {u : List ℕ} {a : Result Got Stop} (q : ℕ) → More e e' 1 root → Meets (went s t e' d q focus) (pool s) left' n t u a → Meets (row_went s rows e d 0 (Statement.letin p q) focus) (pool s) left used rows u a
     unfolding statement_of
     let_met {e'} q m b =
         let γ : List Forest = env_of (pool s) rows e ++ on s t root ∷ [] in
@@ -226,19 +186,15 @@ module _ (s : List ℕ) (d : ℕ) {rows : List ℕ} {e : Scope} {used focus left
       abbrev chosen : Forest → Quiet Forest
       chosen x = branch (of_statement at) (seen x) (went s rows e d q focus) (went s rows e d r focus)
 
-      pub choose_yes : {u : List ℕ} {a : Answer} {b : Bool} → seen (on s t root) ≡ a_bool b → b ≡ true → Meets (went s t e d q focus) (pool s) left' n t u a → Meets (row_went s rows e d at (Statement.if p q r) focus) (pool s) left used rows u a
-      unfolding statement_of branch
-      choose_yes is so m = met_then chosen f (met_as (ap (λ (v : Seen). branch (of_statement at) v (went s rows e d q focus) (went s rows e d r focus)) (is ∙ ap (λ (b : Bool). a_bool b) so) ∙ sym (went_kept f q)) m)
-
-      pub choose_no : {u : List ℕ} {a : Answer} {b : Bool} → seen (on s t root) ≡ a_bool b → b ≡ false → Meets (went s t e d r focus) (pool s) left' n t u a → Meets (row_went s rows e d at (Statement.if p q r) focus) (pool s) left used rows u a
-      unfolding statement_of branch
-      choose_no is so m = met_then chosen f (met_as (ap (λ (v : Seen). branch (of_statement at) v (went s rows e d q focus) (went s rows e d r focus)) (is ∙ ap (λ (b : Bool). a_bool b) so) ∙ sym (went_kept f r)) m)
-
-      pub choose_stuck : {v : Seen} → seen (on s t root) ≡ v → ((y z : Quiet Forest) → branch (of_statement at) v y z ≡ halt (stuck (of_statement at))) → (pu : Purse) → left' ≡ pu.left
-          → Meets (row_went s rows e d at (Statement.if p q r) focus) (pool s) left used rows t (Not (Stuck at 2 pu))
+      pub choose_met : {u : List ℕ} {a : Result Got Stop} {b : Bool} {arm : ℕ} → seen (on s t root) ≡ a_bool b → Arm b q r arm → Meets (went s t e d arm focus) (pool s) left' n t u a → Meets (row_went s rows e d at (Statement.if p q r) focus) (pool s) left used rows u a
       unfolding statement_of
-      choose_stuck {v} is halts pu el = met_then chosen f (subst (λ (j : ℕ). Meets (chosen (on s t root)) (pool s) j n t t (Not (Stuck at 2 pu))) (sym el)
-          (met_stuck at pu (ap (λ (v : Seen). branch (of_statement at) v (went s rows e d q focus) (went s rows e d r focus)) is ∙ halts (went s rows e d q focus) (went s rows e d r focus))))
+      choose_met {arm = arm} is so m = met_then chosen f (met_as (ap (λ (v : Seen). branch (of_statement at) v (went s rows e d q focus) (went s rows e d r focus)) is
+          ∙ arm_branch (of_statement at) (λ (i : ℕ). went s rows e d i focus) so ∙ sym (went_kept f arm)) m)
+
+      pub choose_stuck : ((b : Bool) → seen (on s t root) ≡ a_bool b → ⊥) → (pu : Purse) → left' ≡ pu.left → Meets (row_went s rows e d at (Statement.if p q r) focus) (pool s) left used rows t (Err (Stuck (concern.Statement at) pu))
+      unfolding statement_of
+      choose_stuck other pu el = met_then chosen f (subst (λ (j : ℕ). Meets (chosen (on s t root)) (pool s) j n t t (Err (Stuck (concern.Statement at) pu))) (sym el)
+          (met_stuck at pu (branch_stuck (of_statement at) (went s rows e d q focus) (went s rows e d r focus) other)))
 
 -- ---- a call
 
@@ -304,7 +260,7 @@ module _ (s : List ℕ) (d c q r : ℕ) {rows : List ℕ} {e : Scope} {used focu
   unfolding statement_of
   called l h = rw (h, is)
 
-  pub call_none : {g : Scope} {u : List ℕ} {a : Answer} → Fresh g → q ≡ 0 → Meets (went s rows g d body focus) (pool s) left used rows u a → Meets (row_went s rows e d 0 (Statement.call c (present q r)) focus) (pool s) left used rows u a
+  pub call_none : {g : Scope} {u : List ℕ} {a : Result Got Stop} → Fresh g → q ≡ 0 → Meets (went s rows g d body focus) (pool s) left used rows u a → Meets (row_went s rows e d 0 (Statement.call c (present q r)) focus) (pool s) left used rows u a
   unfolding arguments ◌>>=◌
   call_none {g} fresh z m = met_as (called [] (present_none q r z) ∙ ap goes (sym (env_fresh (pool s) rows fresh))) m
 
@@ -319,7 +275,7 @@ module _ (s : List ℕ) (d c q r : ℕ) {rows : List ℕ} {e : Scope} {used focu
       subst (λ (w : Quiet Forest). Stopped w left why) (sym (called_first l.0 l.1)) (stop_then (λ (x : Forest). (arguments asks l.0 >>= λ y. ret (x ∷ y)) >>= goes) m)
 
   module _ {t : List ℕ} {x n left' : ℕ} (f : Finished (asked s rows e d q) (pool s) left used rows t x n left') (some : q ≡ 0 → ⊥) {g g1 : Scope} (fresh : Fresh g) (one : More g g1 1 x) where
-    pub call_one : {u : List ℕ} {a : Answer} → r ≡ 0 → Meets (went s t g1 d body focus) (pool s) left' n t u a → Meets (row_went s rows e d 0 (Statement.call c (present q r)) focus) (pool s) left used rows u a
+    pub call_one : {u : List ℕ} {a : Result Got Stop} → r ≡ 0 → Meets (went s t g1 d body focus) (pool s) left' n t u a → Meets (row_went s rows e d 0 (Statement.call c (present q r)) focus) (pool s) left used rows u a
     unfolding arguments ◌>>=◌
     call_one z m =
         let env : env_of (pool s) t g1 ≡ on s t x ∷ [] = env_with (pool s) t one ∙ ap (λ (γ : List Forest). γ ++ on s t x ∷ []) (env_fresh (pool s) t fresh) in
@@ -337,15 +293,16 @@ module _ (s : List ℕ) (d c q r : ℕ) {rows : List ℕ} {e : Scope} {used focu
       asks_kept : asked s t e d r ≡ asks r
       asks_kept = asked_after s rows t ready.roomy.low f.same ready.scoped d r
 
-      then_second : {u : List ℕ} {a : Answer} → Meets (asked s t e d r >>= second (on s t x)) (pool s) left' n t u a → Meets (row_went s rows e d 0 (Statement.call c (present q r)) focus) (pool s) left used rows u a
+      then_second : {u : List ℕ} {a : Result Got Stop} → Meets (asked s t e d r >>= second (on s t x)) (pool s) left' n t u a → Meets (row_went s rows e d 0 (Statement.call c (present q r)) focus) (pool s) left used rows u a
       then_second m =
           met_as called_second (met_then (λ (x : Forest). (asks r >>= λ z. ret (z ∷ [])) >>= (λ y. ret (x ∷ y)) >>= goes) f
           (met_as (two_args (asks r) (on s t x) goes ∙ ap (λ (w : Quiet Forest). w >>= second (on s t x)) (sym asks_kept)) m))
 
-      pub call_second_stop : {why : Stop} {u : List ℕ} → Stopped (asked s t e d r) left' why → Meets (row_went s rows e d 0 (Statement.call c (present q r)) focus) (pool s) left used rows u (Not why)
-      call_second_stop m = then_second (met_stop (stop_then (second (on s t x)) m))
+      pub call_second_stop : {why : Stop} {u : List ℕ} (a : Result Got Stop) → IsErrAnd a (λ e. e ≡ why) → Stopped (asked s t e d r) left' why
+          → Meets (row_went s rows e d 0 (Statement.call c (present q r)) focus) (pool s) left used rows u a
+      call_second_stop a i m = then_second (met_exit a i (stop_then (second (on s t x)) m))
 
-      pub call_two : {g2 : Scope} {v u : List ℕ} {a : Answer} {y m left'' : ℕ} → Finished (asked s t e d r) (pool s) left' n t v y m left'' → More g1 g2 1 y → Meets (went s v g2 d body focus) (pool s) left'' m v u a → Meets (row_went s rows e d 0 (Statement.call c (present q r)) focus) (pool s) left used rows u a
+      pub call_two : {g2 : Scope} {v u : List ℕ} {a : Result Got Stop} {y m left'' : ℕ} → Finished (asked s t e d r) (pool s) left' n t v y m left'' → More g1 g2 1 y → Meets (went s v g2 d body focus) (pool s) left'' m v u a → Meets (row_went s rows e d 0 (Statement.call c (present q r)) focus) (pool s) left used rows u a
       call_two {g2} {v} {y = y} h two b =
           let first : on s v x ≡ on s t x = forest_kept (pool s) n (lent_row t) (lent_row v) x f.low h.same f.inside in
           let kept : on s v focus ≡ on s rows focus = forest_kept (pool s) n (lent_row t) (lent_row v) focus f.low h.same (omega (arith, ready.focus, f.grown)) ∙ focus_kept s d ready f in
@@ -368,12 +325,12 @@ module _ (s : List ℕ) (d : ℕ) (e : Scope) (c q r : ℕ) (some : q ≡ 0 → 
 -- ---- an insert
 
 module _ (s : List ℕ) (d : ℕ) {rows : List ℕ} {e : Scope} {used focus left : ℕ} (ready : Ready rows e used focus left) (at p : ℕ) where
-  pub insert_stuck : {byte : ℕ → ℕ} {n : ℕ} {new : List ℕ} (pu : Purse) → (focus ≡ 0 → ⊥) → Meets (row_went s rows e d at (Statement.insert p) focus) byte pu.left n rows new (Not (Stuck at 2 pu))
+  pub insert_stuck : {byte : ℕ → ℕ} {n : ℕ} {new : List ℕ} (pu : Purse) → (focus ≡ 0 → ⊥) → Meets (row_went s rows e d at (Statement.insert p) focus) byte pu.left n rows new (Err (Stuck (concern.Statement at) pu))
   unfolding statement_of insert_of
   insert_stuck pu some =
       met_stuck at pu (ap (λ (f : Forest). insert_of (of_statement at) f (asked s rows e d p)) (read_forest (pool s) (lent_row rows) used focus (lent_row rows focus) ready.roomy.low (omega arith) ready.focus refl))
 
-  pub insert_met : {byte : ℕ → ℕ} {m n : ℕ} {new : List ℕ} {a : Answer} → focus ≡ 0 → Meets (asked s rows e d p) byte m n rows new a → Meets (row_went s rows e d at (Statement.insert p) focus) byte m n rows new a
+  pub insert_met : {byte : ℕ → ℕ} {m n : ℕ} {new : List ℕ} {a : Result Got Stop} → focus ≡ 0 → Meets (asked s rows e d p) byte m n rows new a → Meets (row_went s rows e d at (Statement.insert p) focus) byte m n rows new a
   unfolding statement_of insert_of
   insert_met none m = met_as (ap (λ (f : Forest). insert_of (of_statement at) f (asked s rows e d p)) (forest_none (pool s) (lent_row rows) focus none)) m
 

@@ -1,9 +1,10 @@
 -- What a statement asks and what it goes as: the walk of a row on the forest at a row of those lent. The scope finds its places by Shape's test, in as many steps as there are levels of depth left.
-use Rattle.std.specs.Prelude.{ℕ, suc, ◌+◌, ◌-◌, ◌≤◌, ◌<◌, ◌≡◌, refl, Bool, true, ◌&&◌, List, [], ◌∷◌, ◌++◌, length}
+use Rattle.std.specs.Prelude.{ℕ, suc, ◌+◌, ◌-◌, ◌≤◌, ◌<◌, ◌≡◌, refl, Bool, true, ◌&&◌, cond, eqb, List, [], ◌∷◌, ◌++◌, length, Result}
 use Rattle.std.proofs.Common.{arith, sym, ◌∙◌}
 use Rattle.std.proofs.Math.Path.{ap, subst}
-use Rattle.meaning.specs.Sheet.{script_of}
-use Rattle.meaning.specs.Kinds.{Statement, Test, statement_form, statement_at, present}
+use Rattle.meaning.specs.Sheet.{Cells, script_of}
+use Rattle.meaning.specs.Kinds as kinds
+use Rattle.meaning.specs.Kinds.{Statement, statement_form, statement_at, present}
 use Rattle.meaning.specs.Forest.{Forest, forest_at}
 use Rattle.meaning.specs.Shape.{Holds, a_forest, has_place, parameters_scope, query_scoped, statement_scope, statement_scoped, shapely}
 use Rattle.meaning.specs.Walk.{Quiet, tick}
@@ -12,13 +13,14 @@ use Rattle.meaning.specs.Run.{query, statement, statement_of}
 use Rattle.meaning.specs.Laws.Bools.{and_left, and_right}
 use Rattle.meaning.specs.Laws.Scoped.{statement_parts, call_in_scope}
 use Rattle.meaning.specs.Theorems.ReadBack.{lent_row}
-use Rattle.sheet.specs.Laid.{cells_of}
-use Rattle.sheet.specs.declared.Row.{Row}
+use Rattle.sheet.specs.declared.forms.Test.{Test}
+use Rattle.forest_rows.specs.declared.Seen.{Seen}
 use Rattle.walk.specs.Scope.{Fresh, More, env_of, scoped_fresh}
 use Rattle.walk.specs.Meets.{Finished, Stopped, Meets, Ran, ready_scope, ran_tick, stop_tick, stop_depth}
 use Rattle.walk.specs.declared.Scope.{Scope}
 use Rattle.walk.specs.declared.Purse.{Purse}
-use Rattle.walk.specs.declared.Answer.{Answer}
+use Rattle.walk.specs.declared.Got.{Got}
+use Rattle.walk.specs.declared.Stop.{Stop}
 use Rattle.walk.specs.declared.Stop.TheVariants.{Fuel, Depth}
 use Rattle.walk.specs.Fits.{shape_of, holds_of, shape_with}
 use Rattle.run_query.specs.Ask.{Asks, pool, asks_less, asks_after, asks_with}
@@ -84,7 +86,7 @@ module _ {s : List ℕ} {rows : List ℕ} {e : Scope} {used focus left : ℕ} {f
 
   -- with no place
   pub edits_fresh : {e' : Scope} {fit' : Bool} → Fresh e' → fit' ≡ true → Edits s rows e' used focus left fit'
-  edits_fresh {e'} fresh g = record { shaped = h.shaped; asks = record { whole = h.asks.whole; ready = ready_scope e' h.asks.ready (scoped_fresh used fresh); scope = g } }
+  edits_fresh {e'} fresh g = record { shaped = h.shaped; asks = record { ready = ready_scope e' h.asks.ready (scoped_fresh used fresh); scope = g } }
 
 -- ---- Shape's test, taken apart
 
@@ -115,7 +117,7 @@ module _ (s : List ℕ) (d : ℕ) (e : Scope) where
   unfolding statement_scope
   fits_snapshot p h = (and_left (has_place (shape_of e)) (go (shape_of e ++ a_forest ∷ []) p) h, and_right (has_place (shape_of e)) (go (shape_of e ++ a_forest ∷ []) p) h)
 
-  pub fits_test : (t : Test) (r : ℕ) → fits_row s d e (Statement.test t r) ≡ true → fits s d e r ≡ true
+  pub fits_test : (t : kinds.Test) (r : ℕ) → fits_row s d e (Statement.test t r) ≡ true → fits s d e r ≡ true
   unfolding statement_scope
   fits_test t r h = h
 
@@ -150,19 +152,28 @@ fate_of Misfit = meaning.misfit
 fate_of Matched = meaning.matched
 fate_of Passed = meaning.passed
 
+-- of what is seen
+abbrev pub fate_told : Seen → Test → Fate
+fate_told Seen.Nothing t = Misfit
+fate_told Seen.Many t = Misfit
+fate_told (Seen.Text o n) Test.Text = Matched
+fate_told (Seen.Text o n) (Test.Label l) = Passed
+fate_told (Seen.Text o n) Test.Any = Matched
+fate_told (Seen.Bool b) Test.Text = Passed
+fate_told (Seen.Bool b) (Test.Label l) = Passed
+fate_told (Seen.Bool b) Test.Any = Matched
+fate_told (Seen.Node n c) Test.Text = Passed
+fate_told (Seen.Node n c) (Test.Label l) = cond (eqb n l) Matched Passed
+fate_told (Seen.Node n c) Test.Any = Matched
+
 -- ---- what a row says
 
-module _ (s : List ℕ) (at : ℕ) (c : Row) (is : cells_of c ≡ (script_of s).statement_row at) where
-  pub form_is : (n : ℕ) → c.kind ≡ n → statement_at (script_of s) at ≡ statement_form (record { kind = n; p = c.p; q = c.q; r = c.r })
-  form_is n e = ap statement_form (sym is) ∙ ap (λ (j : ℕ). statement_form (record { kind = j; p = c.p; q = c.q; r = c.r })) e
+pub statement_is : (s : List ℕ) (at : ℕ) {c : Cells} → c ≡ (script_of s).statement_row at → {form : Statement} → form ≡ statement_form c → statement_at (script_of s) at ≡ form
+statement_is s at is e = ap statement_form (sym is) ∙ sym e
 
-  pub form_none : 15 ≤ c.kind → statement_at (script_of s) at ≡ Statement.none
-  form_none h =
-      let e : c.kind ≡ suc (suc (suc (suc (suc (suc (suc (suc (suc (suc (suc (suc (suc (suc (suc (c.kind - 15))))))))))))))) = omega arith in
-      form_is (suc (suc (suc (suc (suc (suc (suc (suc (suc (suc (suc (suc (suc (suc (suc (c.kind - 15)))))))))))))))) e
-
-  pub form_call : (d : ℕ) → shapely s ≡ true → c.kind ≡ 14 → fits_called s d c.p c.q c.r
-  form_call d h e = call_in_scope s h d at c.p c.q c.r (sym is ∙ ap (λ (k : ℕ). record { kind = k; p = c.p; q = c.q; r = c.r }) e)
+pub called_is : (s : List ℕ) (at : ℕ) {c : Cells} → c ≡ (script_of s).statement_row at → {p q r : ℕ} → c ≡ record { kind = 14; p = p; q = q; r = r }
+    → (d : ℕ) → shapely s ≡ true → fits_called s d p q r
+called_is s at is {p} {q} {r} e d h = call_in_scope s h d at p q r (sym is ∙ e)
 
 module _ (s : List ℕ) (e : Scope) (d at : ℕ) {form : Statement} (some : d ≡ 0 → ⊥) (is : statement_at (script_of s) at ≡ form) where
   deeper : d ≡ suc (d - 1)
@@ -175,9 +186,15 @@ module _ (s : List ℕ) (e : Scope) (d at : ℕ) {form : Statement} (some : d �
   unfolding statement
   went_is rows focus = ap (λ (n : ℕ). went s rows e n at focus) deeper ∙ ap (λ (x : Statement). tick (row_went s rows e (d - 1) at x focus)) is
 
-  pub went_as : {rows new : List ℕ} {left' used : ℕ} {a : Answer} (focus left : ℕ) → left' + 1 ≡ left → Meets (row_went s rows e (d - 1) at form focus) (pool s) left' used rows new a
+  pub went_as : {rows new : List ℕ} {left' used : ℕ} {a : Result Got Stop} (focus left : ℕ) → left' + 1 ≡ left → Meets (row_went s rows e (d - 1) at form focus) (pool s) left' used rows new a
       → Ran (went s rows e d at focus) (pool s) left used rows new a
   went_as {rows} {new} {left'} {used} {a} focus left p m = subst (λ (w : Quiet Forest). Ran w (pool s) left used rows new a) (sym (went_is rows focus)) (ran_tick left p m)
+
+-- what the evaluator of a form is asked: a level of depth and a unit less
+pub edits_row : {s rows : List ℕ} {e : Scope} {d used focus left left' : ℕ} (at : ℕ) {c : Cells} {form : Statement} → (d ≡ 0 → ⊥) → c ≡ (script_of s).statement_row at → form ≡ statement_form c
+    → left' + 1 ≡ left
+    → Edits s rows e used focus left (fits s d e at) → Edits s rows e used focus left' (fits_row s (d - 1) e form)
+edits_row {s} {e = e} {d} {left' = left'} at some is says paid h = edits_less h left' paid (fits_form s e d at some (statement_is s at is says) h.shaped h.asks.scope)
 
 module _ (s rows : List ℕ) (e : Scope) (d at focus : ℕ) where
   pub went_deep : (p : Purse) → d ≡ 0 → Stopped (went s rows e d at focus) p.left (Depth p)

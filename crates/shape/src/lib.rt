@@ -1,178 +1,118 @@
 // Shape, refusal 2: every rule and limit under "Tables" in document 01, without recursion and in time linear in the rows.
-#![tactic(auto)]
+#![tactic(auto, unfolding(meaning::specs::Sheet::script_of, meaning::specs::Sheet::grove_of, meaning::specs::Sheet::sheet_of))]
 
-ghost use Rattle.std.specs.Prelude.{◌≡◌, List, ℕ};
+ghost use Rattle.std.specs.Prelude.{◌≡◌, true, false, IfSome, IsNone};
 ghost use Rattle.meaning.specs.Sheet.{sheet_of};
 ghost use Rattle.meaning.specs.Shape.{limits_ok, names_ok, procedure_ok, procedures_ok, roots_ok};
 ghost use Rattle.meaning.specs.Shape as meaning;
-ghost use Rattle.sheet.specs.Laid.{Laid, procedure_of};
+ghost use Rattle.sheet.specs.Laid.{procedure_of};
 ghost use Rattle.shape.specs.Tables.{tables_ok, name_ok, paired};
 
 use shape_kinds::in_table;
-use sheet::{Layout, Procedure};
+use sheet::forms::Ty;
+use sheet::{Procedure, Sheet};
 
-fn limits_ok(l: Layout) -> bool
-    ensures { (s : List ℕ) → Laid s l → result ≡ limits_ok (sheet_of s) }
+#[tactic(auto, unfolding(meaning::specs::Sheet::sheet_of, meaning::specs::Shape::limits_ok))]
+fn limits_ok(s: &Sheet) -> bool
+    ensures { result ≡ limits_ok (sheet_of s.now) }
 {
-    if 32 < l.names {
-        return false;
-    }
-    if 512 < l.types {
-        return false;
-    }
-    if 512 < l.queries {
-        return false;
-    }
-    if 512 < l.statements {
-        return false;
-    }
-    if 16 < l.procedures {
-        return false;
-    }
-    if 2048 < l.rows {
-        return false;
-    }
-    if 16384 < l.pool {
-        return false;
-    }
-    if 4096 < l.check_fuel {
-        return false;
-    }
-    l.run_fuel <= 4096
+    s.names() <= 32
+        && s.types() <= 512
+        && s.queries() <= 512
+        && s.statements() <= 512
+        && s.procedures() <= 16
+        && s.rows() <= 2048
+        && s.pool() <= 16384
+        && s.check_fuel() <= 4096
+        && s.run_fuel() <= 4096
 }
 
-// A name stands for one row of kind 4.
-fn is_named(s: &[u8], l: Layout, x: usize) -> bool
-    requires { Laid s.now l }
+// A name stands for a label's row.
+fn is_named(s: &Sheet, x: usize) -> bool
     ensures { result ≡ name_ok (sheet_of s.now) x }
 {
-    let row = sheet::name_row(s, l, x);
-    if !in_table(l.types, row) {
-        return false;
-    }
-    let c = sheet::type_row(s, l, row);
-    c.kind == 4
+    let row = s.name_row(x);
+    in_table(s.types(), row) && matches!(s.type_row(row).as_type(), Ty::Label(_, _))
 }
 
-fn names_ok(s: &[u8], l: Layout) -> bool
-    requires { Laid s.now l }
+fn names_ok(s: &Sheet) -> bool
     ensures { result ≡ names_ok (sheet_of s.now) }
 {
-    let mut i = 0;
-    while i < l.names {
-        i += 1;
-        if !is_named(s, l, i) {
-            return false;
-        }
-    }
-    true
+    (1..=s.names()).all(|x| is_named(s, x))
 }
 
 // The first parameter may be 0 only if the second is.
 fn in_order(first: usize, second: usize) -> bool
     ensures { result ≡ paired first second }
 {
-    if first == 0 {
-        return second == 0;
-    }
-    true
+    first != 0 || second == 0
 }
 
 // Parameters may be absent; input, output and body are there.
-fn is_procedure(l: Layout, c: Procedure) -> bool
-    ensures { (s : List ℕ) → Laid s l → result ≡ procedure_ok (sheet_of s) (procedure_of c) }
+fn is_procedure(s: &Sheet, c: Procedure) -> bool
+    ensures { result ≡ procedure_ok (sheet_of s.now) (procedure_of c) }
 {
-    if l.types < c.first {
-        return false;
-    }
-    if l.types < c.second {
-        return false;
-    }
-    if !in_order(c.first, c.second) {
-        return false;
-    }
-    if !in_table(l.types, c.input) {
-        return false;
-    }
-    if !in_table(l.types, c.output) {
-        return false;
-    }
-    in_table(l.statements, c.body)
+    let types = s.types();
+    c.first <= types
+        && c.second <= types
+        && in_order(c.first, c.second)
+        && in_table(types, c.input)
+        && in_table(types, c.output)
+        && in_table(s.statements(), c.body)
 }
 
-fn procedures_ok(s: &[u8], l: Layout) -> bool
-    requires { Laid s.now l }
+fn procedures_ok(s: &Sheet) -> bool
     ensures { result ≡ procedures_ok (sheet_of s.now) }
 {
-    let mut i = 0;
-    while i < l.procedures {
-        i += 1;
-        if !is_procedure(l, sheet::procedure_row(s, l, i)) {
-            return false;
-        }
-    }
-    true
+    (1..=s.procedures()).all(|c| is_procedure(s, s.procedure_row(c)))
 }
 
 // A, B and main are there; the forest's root may be 0.
-fn roots_ok(l: Layout) -> bool
-    ensures { (s : List ℕ) → Laid s l → result ≡ roots_ok (sheet_of s) }
+#[tactic(auto, unfolding(meaning::specs::Sheet::sheet_of, meaning::specs::Shape::roots_ok))]
+fn roots_ok(s: &Sheet) -> bool
+    ensures { result ≡ roots_ok (sheet_of s.now) }
 {
-    if !in_table(l.types, l.a) {
-        return false;
-    }
-    if !in_table(l.types, l.b) {
-        return false;
-    }
-    if !in_table(l.statements, l.main) {
-        return false;
-    }
-    l.root <= l.rows
+    in_table(s.types(), s.a())
+        && in_table(s.types(), s.b())
+        && in_table(s.statements(), s.main())
+        && s.root() <= s.rows()
 }
 
 // Every rule but those of scope.
-fn tables_ok(s: &[u8], l: Layout) -> bool
-    requires { Laid s.now l }
+fn tables_ok(s: &Sheet) -> bool
     ensures { result ≡ tables_ok (sheet_of s.now) }
 {
-    if !limits_ok(l) {
-        return false;
-    }
-    if !shape_kinds::types_ok(s, l) {
-        return false;
-    }
-    if !shape_kinds::queries_ok(s, l) {
-        return false;
-    }
-    if !shape_kinds::statements_ok(s, l) {
-        return false;
-    }
-    if !shape_kinds::rows_ok(s, l) {
-        return false;
-    }
-    if !names_ok(s, l) {
-        return false;
-    }
-    if !procedures_ok(s, l) {
-        return false;
-    }
-    if !roots_ok(l) {
-        return false;
-    }
-    shape_users::users_ok(s, l)
+    limits_ok(s)
+        && shape_kinds::types_ok(s)
+        && shape_kinds::queries_ok(s)
+        && shape_kinds::statements_ok(s)
+        && shape_kinds::rows_ok(s)
+        && names_ok(s)
+        && procedures_ok(s)
+        && roots_ok(s)
+        && shape_users::users_ok(s)
 }
 
-// Whether the sheet is as "Tables" asks, and as long as its counts ask.
+// Every rule under "Tables".
+fn is_shaped(s: &Sheet) -> bool
+    ensures { result ≡ meaning.shaped (sheet_of s.now) }
+{
+    tables_ok(s) && shape_scope::scope_ok(s)
+}
+
+// The sheet that lies in the bytes: none where it isn't as "Tables" asks, or the bytes are fewer than its counts ask.
+#[tactic(auto, using(crate::proofs::Rules::short, crate::proofs::Rules::long))]
+pub fn shaped<'a>(bytes: &'a [u8]) -> Option<Sheet<'a>>
+    ensures some { IfSome result (λ s. (s ≡ bytes.now) × (meaning.shapely bytes.now ≡ true)) }
+    ensures none { IsNone result → meaning.shapely bytes.now ≡ false }
+{
+    let s = Sheet::of(bytes)?;
+    is_shaped(&s).then_some(s)
+}
+
+// Whether there is one.
 pub fn shapely(s: &[u8]) -> bool
     ensures { result ≡ meaning.shapely s.now }
 {
-    let need = sheet::need_of(s);
-    if s.len() < need {
-        return false;
-    }
-    let l = sheet::lay_out(s);
-    if !tables_ok(s, l) {
-        return false;
-    }
-    shape_scope::scope_ok(s, l)
+    shaped(s).is_some()
 }

@@ -1,2 +1,3 @@
 -- What the code's enums stand for.
 pub mod Told
+pub mod Each

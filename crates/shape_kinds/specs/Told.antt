@@ -1,5 +1,5 @@
 -- The code's enums and the meaning's: `use_of` and `uses_in` are the uses that they stand for, `Says` what is known of a row's kind.
-use Rattle.std.specs.Prelude.{◌≡◌, Bool, true, false, ◌&&◌, ℕ}
+use Rattle.std.specs.Prelude.{◌≡◌, Bool, true, false, ◌&&◌, ℕ, Option, Some, None}
 use Rattle.meaning.specs.Tests.{in_table}
 use Rattle.meaning.specs.Sheet.{Cells, Sheet}
 use Rattle.meaning.specs.Sheet as sheet
@@ -8,8 +8,6 @@ use Rattle.meaning.specs.Shape as meaning
 use Rattle.shape_kinds.specs.declared.Use.{Use}
 use Rattle.shape_kinds.specs.declared.Use.TheVariants.{Unused, Free, Label, Part, Link, Query, Name, Procedure, Tester, Size}
 use Rattle.shape_kinds.specs.declared.Uses.{Uses}
-use Rattle.shape_kinds.specs.declared.Kinds.{Kinds}
-use Rattle.shape_kinds.specs.declared.Kinds.TheVariants.{Known, Refused}
 
 abbrev pub use_of : Use → meaning.Use
 use_of Unused = meaning.Use.unused
@@ -26,22 +24,22 @@ use_of (Size offset) = meaning.Use.size_at offset
 abbrev pub uses_of : Uses → meaning.Uses
 uses_of u = uses (use_of u.p) (use_of u.q) (use_of u.r)
 
-abbrev pub is_known : Kinds → Bool
-is_known (Known u) = true
-is_known Refused = false
+abbrev pub is_known : Option Uses → Bool
+is_known (Some u) = true
+is_known None = false
 
 -- a kind that is none of its table's says nothing of its words
-abbrev pub uses_in : Kinds → meaning.Uses
-uses_in (Known u) = uses_of u
-uses_in Refused = no_uses
+abbrev pub uses_in : Option Uses → meaning.Uses
+uses_in (Some u) = uses_of u
+uses_in None = no_uses
 
 -- k is what a row's kind says in a table of n kinds: known if it is one of them, and u of its words
-pub record Says (n kind : ℕ) (u : meaning.Uses) (k : Kinds) : Type 0 where
+pub record Says (n kind : ℕ) (u : meaning.Uses) (k : Option Uses) : Type 0 where
   pub is : is_known k ≡ in_table n kind
   pub uses : uses_in k ≡ u
 
 -- k is what a call of the procedure c says
-pub record Calls (c : sheet.Procedure) (k : Kinds) : Type 0 where
+pub record Calls (c : sheet.Procedure) (k : Option Uses) : Type 0 where
   pub is : is_known k ≡ true
   pub uses : uses_in k ≡ uses meaning.Use.procedure (argument c.first) (argument c.second)
 

@@ -1,10 +1,10 @@
 // What each word of a row is for, by the row's kind, and whether it is what that use asks: the rules under "Tables" that speak of one
 // row.
-#![tactic(auto)]
+#![tactic(auto, unfolding(meaning::specs::Sheet::script_of, meaning::specs::Sheet::grove_of, meaning::specs::Sheet::sheet_of))]
 
-ghost use Rattle.std.specs.Prelude.{◌≡◌, ◌&&◌, cond, eqb, List, ℕ};
+ghost use Rattle.std.specs.Prelude.{◌≡◌, ◌&&◌, IfSome, is_some};
 ghost use Rattle.meaning.specs.Tests.{in_table};
-ghost use Rattle.meaning.specs.Sheet.{Sheet, script_of, sheet_of};
+ghost use Rattle.meaning.specs.Sheet.{script_of, grove_of, sheet_of};
 ghost use Rattle.meaning.specs.Shape.{
   type_uses,
   query_uses,
@@ -23,10 +23,12 @@ ghost use Rattle.meaning.specs.Shape.{
   rows_ok,
 };
 ghost use Rattle.meaning.specs.Shape as meaning;
-ghost use Rattle.sheet.specs.Laid.{Laid, cells_of, procedure_of};
+ghost use Rattle.sheet.specs.Laid.{cells_of};
+ghost use Rattle.sheet.specs.Forms.{tree_said};
 ghost use Rattle.shape_kinds.specs.Told.{use_of, uses_of, is_known, uses_in, row_ok, Says, Calls};
 
-use sheet::{Layout, Procedure, Row};
+use sheet::forms::{Query, Statement, Test, Tree, Ty};
+use sheet::{Row, Sheet};
 
 // What a word of a row is for.
 #[derive(Clone, Copy)]
@@ -43,6 +45,7 @@ pub enum Use {
     Size(usize),
 }
 
+// The uses of a row's words.
 #[derive(Clone, Copy)]
 pub struct Uses {
     pub p: Use,
@@ -50,63 +53,50 @@ pub struct Uses {
     pub r: Use,
 }
 
-// The uses of a row's words, if its kind is one of its table's.
-#[derive(Clone, Copy)]
-pub enum Kinds {
-    Known(Uses),
-    Refused,
-}
-
-fn known(p: Use, q: Use, r: Use) -> Kinds
-    ensures { result ≡ Kinds.Known (record { p = p; q = q; r = r }) }
+// What one of a table's kinds says.
+fn known(p: Use, q: Use, r: Use) -> Option<Uses>
+    ensures { result ≡ Some (record { p = p; q = q; r = r }) }
 {
-    Kinds::Known(Uses { p, q, r })
+    Some(Uses { p, q, r })
 }
 
-fn no_uses() -> Kinds
-    ensures { result ≡ Kinds.Known (record { p = Use.Unused; q = Use.Unused; r = Use.Unused }) }
+fn no_uses() -> Option<Uses>
+    ensures { result ≡ Some (record { p = Use.Unused; q = Use.Unused; r = Use.Unused }) }
 {
     known(Use::Unused, Use::Unused, Use::Unused)
 }
 
 // Types: empty, text, bool, label, sequence, choice, star, name.
-pub fn type_uses(c: Row) -> Kinds
+pub fn type_uses(c: Row) -> Option<Uses>
     ensures { Says 8 c.kind (type_uses (cells_of c)) result }
 {
-    let kind = c.kind;
-    match kind {
-        1 => no_uses(),
-        2 => no_uses(),
-        3 => no_uses(),
-        4 => known(Use::Label, Use::Part, Use::Unused),
-        5 => known(Use::Part, Use::Part, Use::Unused),
-        6 => known(Use::Part, Use::Part, Use::Unused),
-        7 => known(Use::Part, Use::Unused, Use::Unused),
-        8 => known(Use::Name, Use::Unused, Use::Unused),
-        0 | 9..=65535 => Kinds::Refused,
+    match c.as_type() {
+        Ty::Nothing => None,
+        Ty::Empty | Ty::Text | Ty::Bool => no_uses(),
+        Ty::Label(_, _) => known(Use::Label, Use::Part, Use::Unused),
+        Ty::Sequence(_, _) | Ty::Choice(_, _) => known(Use::Part, Use::Part, Use::Unused),
+        Ty::Star(_) => known(Use::Part, Use::Unused, Use::Unused),
+        Ty::Name(_) => known(Use::Name, Use::Unused, Use::Unused),
     }
 }
 
 // Queries: empty, join, tree, text, true, false, variable, let, if, same, children, pick, for.
-pub fn query_uses(c: Row) -> Kinds
+pub fn query_uses(c: Row) -> Option<Uses>
     ensures { Says 13 c.kind (query_uses (cells_of c)) result }
 {
-    let kind = c.kind;
-    match kind {
-        1 => no_uses(),
-        2 => known(Use::Part, Use::Part, Use::Unused),
-        3 => known(Use::Label, Use::Part, Use::Unused),
-        4 => known(Use::Free, Use::Size(c.p), Use::Unused),
-        5 => no_uses(),
-        6 => no_uses(),
-        7 => known(Use::Free, Use::Unused, Use::Unused),
-        8 => known(Use::Part, Use::Part, Use::Unused),
-        9 => known(Use::Part, Use::Part, Use::Part),
-        10 => known(Use::Part, Use::Part, Use::Unused),
-        11 => known(Use::Free, Use::Unused, Use::Unused),
-        12 => known(Use::Part, Use::Label, Use::Unused),
-        13 => known(Use::Part, Use::Part, Use::Unused),
-        0 | 14..=65535 => Kinds::Refused,
+    match c.as_query() {
+        Query::Nothing => None,
+        Query::Empty | Query::Bool(_) => no_uses(),
+        Query::Join(_, _) | Query::Let(_, _) | Query::Same(_, _) | Query::For(_, _) => known(
+            Use::Part,
+            Use::Part,
+            Use::Unused,
+        ),
+        Query::Tree(_, _) => known(Use::Label, Use::Part, Use::Unused),
+        Query::Text(offset, _) => known(Use::Free, Use::Size(offset), Use::Unused),
+        Query::Variable(_) | Query::Children(_) => known(Use::Free, Use::Unused, Use::Unused),
+        Query::If(_, _, _) => known(Use::Part, Use::Part, Use::Part),
+        Query::Pick(_, _) => known(Use::Part, Use::Label, Use::Unused),
     }
 }
 
@@ -121,56 +111,54 @@ fn argument(parameter: usize) -> Use
     }
 }
 
-// The word after a tester: a label if labels are tested.
-fn tested(tester: usize) -> Use
-    ensures { use_of result ≡ cond (eqb tester 2) meaning.Use.label meaning.Use.unused }
+// A call, of the procedure `callee`.
+fn call_uses(s: &Sheet, callee: usize) -> Option<Uses>
+    ensures { Calls ((script_of s.now).procedure_row callee) result }
 {
-    if tester == 2 { Use::Label } else { Use::Unused }
-}
-
-// A call, of the procedure `c`.
-fn call_uses(c: Procedure) -> Kinds
-    ensures { Calls (procedure_of c) result }
-{
+    let c = s.procedure_row(callee);
     known(Use::Procedure, argument(c.first), argument(c.second))
 }
 
 // Statements: skip, then, if, insert, delete, rename, let, snapshot, test, children, left, right, iter, call.
-pub fn statement_uses(s: &[u8], l: Layout, c: Row) -> Kinds
-    requires { Laid s.now l }
+pub fn statement_uses(s: &Sheet, c: Row) -> Option<Uses>
     ensures { Says 14 c.kind (statement_uses (script_of s.now).procedure_row (cells_of c)) result }
 {
-    let kind = c.kind;
-    match kind {
-        1 => no_uses(),
-        2 => known(Use::Part, Use::Part, Use::Unused),
-        3 => known(Use::Query, Use::Part, Use::Part),
-        4 => known(Use::Query, Use::Unused, Use::Unused),
-        5 => no_uses(),
-        6 => known(Use::Label, Use::Unused, Use::Unused),
-        7 => known(Use::Query, Use::Part, Use::Unused),
-        8 => known(Use::Part, Use::Unused, Use::Unused),
-        9 => known(Use::Tester, tested(c.p), Use::Part),
-        10 => known(Use::Part, Use::Unused, Use::Unused),
-        11 => known(Use::Part, Use::Unused, Use::Unused),
-        12 => known(Use::Part, Use::Unused, Use::Unused),
-        13 => known(Use::Part, Use::Unused, Use::Unused),
-        14 => call_uses(sheet::procedure_row(s, l, c.p)),
-        0 | 15..=65535 => Kinds::Refused,
+    match c.as_statement() {
+        Statement::Nothing => None,
+        Statement::Skip | Statement::Delete => no_uses(),
+        Statement::Then(_, _) => known(Use::Part, Use::Part, Use::Unused),
+        Statement::If(_, _, _) => known(Use::Query, Use::Part, Use::Part),
+        Statement::Insert(_) => known(Use::Query, Use::Unused, Use::Unused),
+        Statement::Rename(_) => known(Use::Label, Use::Unused, Use::Unused),
+        Statement::Let(_, _) => known(Use::Query, Use::Part, Use::Unused),
+        Statement::Test(Test::Label(_), _) => known(Use::Tester, Use::Label, Use::Part),
+        Statement::Test(Test::Text | Test::Any, _) => known(Use::Tester, Use::Unused, Use::Part),
+        Statement::Snapshot(_)
+        | Statement::Children(_)
+        | Statement::Left(_)
+        | Statement::Right(_)
+        | Statement::Iter(_) => known(Use::Part, Use::Unused, Use::Unused),
+        Statement::Call(callee, _, _) => call_uses(s, callee),
     }
 }
 
+// What a forest's row says. The kind is told by its number first: `as_tree` takes every kind that no forest has for a tree's, and the
+// rule refuses such a kind.
+fn tree_of(c: Row) -> Option<Tree>
+    ensures is { IfSome result (λ t. t ≡ tree_said (cells_of c)) }
+    ensures known { is_some result ≡ in_table 4 c.kind }
+{
+    matches!(c.kind, 1..=4).then(|| c.as_tree())
+}
+
 // Forests: text, false, true, label; the last word is next.
-pub fn forest_uses(c: Row) -> Kinds
+pub fn forest_uses(c: Row) -> Option<Uses>
     ensures { Says 4 c.kind (forest_uses (cells_of c)) result }
 {
-    let kind = c.kind;
-    match kind {
-        1 => known(Use::Free, Use::Size(c.p), Use::Link),
-        2 => known(Use::Unused, Use::Unused, Use::Link),
-        3 => known(Use::Unused, Use::Unused, Use::Link),
-        4 => known(Use::Label, Use::Link, Use::Link),
-        0 | 5..=65535 => Kinds::Refused,
+    match tree_of(c)? {
+        Tree::Text(offset, _) => known(Use::Free, Use::Size(offset), Use::Link),
+        Tree::Bool(_) => known(Use::Unused, Use::Unused, Use::Link),
+        Tree::Node(_, _) => known(Use::Label, Use::Link, Use::Link),
     }
 }
 
@@ -178,35 +166,27 @@ pub fn forest_uses(c: Row) -> Kinds
 pub fn in_table(n: usize, w: usize) -> bool
     ensures { result ≡ in_table n w }
 {
-    if w == 0 {
-        return false;
-    }
-    w <= n
+    1 <= w && w <= n
 }
 
 // Offset plus length is at most the pool's bytes.
 fn in_pool(pool: usize, offset: usize, w: usize) -> bool
     ensures { result ≡ is_size pool offset w }
 {
-    if pool < w {
-        return false;
-    }
-    offset <= pool - w
+    w <= pool && offset <= pool - w
 }
 
 // A lower row, not 0.
 fn lower(row: usize, w: usize) -> bool
     ensures { result ≡ is_part row w }
 {
-    if w == 0 {
-        return false;
-    }
-    w < row
+    1 <= w && w < row
 }
 
-// A word is what its use says it must be, in every sheet of this layout. Of a variable the scope is the judge, of an offset its length.
-fn word_ok(l: Layout, u: Use, row: usize, w: usize) -> bool
-    ensures { (s : List ℕ) → Laid s l → result ≡ word_ok (sheet_of s) (use_of u) row w }
+// A word is what its use says it must be. Of a variable the scope is the judge, of an offset its length.
+#[tactic(auto, unfolding(meaning::specs::Shape::word_ok, meaning::specs::Sheet::sheet_of))]
+fn word_ok(s: &Sheet, u: Use, row: usize, w: usize) -> bool
+    ensures { result ≡ word_ok (sheet_of s.now) (use_of u) row w }
 {
     match u {
         Use::Unused => w == 0,
@@ -214,130 +194,104 @@ fn word_ok(l: Layout, u: Use, row: usize, w: usize) -> bool
         Use::Label => w <= 1023,
         Use::Part => lower(row, w),
         Use::Link => w < row,
-        Use::Query => in_table(l.queries, w),
-        Use::Name => in_table(l.names, w),
-        Use::Procedure => in_table(l.procedures, w),
+        Use::Query => in_table(s.queries(), w),
+        Use::Name => in_table(s.names(), w),
+        Use::Procedure => in_table(s.procedures(), w),
         Use::Tester => in_table(3, w),
-        Use::Size(offset) => in_pool(l.pool, offset, w),
+        Use::Size(offset) => in_pool(s.pool(), offset, w),
     }
 }
 
-fn words_ok(l: Layout, u: Uses, row: usize, c: Row) -> bool
-    ensures { (s : List ℕ) → Laid s l → result ≡ words_ok (sheet_of s) (uses_of u) row (cells_of c) }
+fn words_ok(s: &Sheet, u: Uses, row: usize, c: Row) -> bool
+    ensures { result ≡ words_ok (sheet_of s.now) (uses_of u) row (cells_of c) }
 {
-    let p = u.p;
-    let q = u.q;
-    let r = u.r;
-    if !word_ok(l, p, row, c.p) {
-        return false;
-    }
-    if !word_ok(l, q, row, c.q) {
-        return false;
-    }
-    word_ok(l, r, row, c.r)
+    word_ok(s, u.p, row, c.p) && word_ok(s, u.q, row, c.q) && word_ok(s, u.r, row, c.r)
 }
 
-fn row_ok(l: Layout, k: Kinds, row: usize, c: Row) -> bool
-    ensures { (s : List ℕ) → Laid s l → result ≡ is_known k && words_ok (sheet_of s) (uses_in k) row (cells_of c) }
+fn row_ok(s: &Sheet, k: Option<Uses>, row: usize, c: Row) -> bool
+    ensures { result ≡ is_known k && words_ok (sheet_of s.now) (uses_in k) row (cells_of c) }
 {
     match k {
-        Kinds::Known(u) => words_ok(l, u, row, c),
-        Kinds::Refused => false,
+        Some(u) => words_ok(s, u, row, c),
+        None => false,
     }
 }
 
-pub fn types_ok(s: &[u8], l: Layout) -> bool
-    requires { Laid s.now l }
-    ensures { result ≡ types_ok (sheet_of s.now) }
+// One for each table that has kinds: they differ in the row that is read and in what its kinds use, and one function would be handed both.
+fn type_ok(s: &Sheet, i: usize) -> bool
+    ensures { result ≡ row_ok (sheet_of s.now) 8 type_uses i ((script_of s.now).type_row i) }
 {
-    let mut i = 0;
-    while i < l.types {
-        i += 1;
-        let c = sheet::type_row(s, l, i);
-        if !row_ok(l, type_uses(c), i, c) {
-            return false;
-        }
-    }
-    true
+    let c = s.type_row(i);
+    row_ok(s, type_uses(c), i, c)
 }
 
-pub fn queries_ok(s: &[u8], l: Layout) -> bool
-    requires { Laid s.now l }
-    ensures { result ≡ queries_ok (sheet_of s.now) }
+fn query_ok(s: &Sheet, i: usize) -> bool
+    ensures { result ≡ row_ok (sheet_of s.now) 13 query_uses i ((script_of s.now).query_row i) }
 {
-    let mut i = 0;
-    while i < l.queries {
-        i += 1;
-        let c = sheet::query_row(s, l, i);
-        if !row_ok(l, query_uses(c), i, c) {
-            return false;
-        }
-    }
-    true
+    let c = s.query_row(i);
+    row_ok(s, query_uses(c), i, c)
 }
 
-pub fn statements_ok(s: &[u8], l: Layout) -> bool
-    requires { Laid s.now l }
-    ensures { result ≡ statements_ok (sheet_of s.now) }
+fn statement_ok(s: &Sheet, i: usize) -> bool
+    ensures { result ≡ row_ok (sheet_of s.now) 14 (statement_uses (script_of s.now).procedure_row) i
+        ((script_of s.now).statement_row i) }
 {
-    let mut i = 0;
-    while i < l.statements {
-        i += 1;
-        let c = sheet::statement_row(s, l, i);
-        if !row_ok(l, statement_uses(s, l, c), i, c) {
-            return false;
-        }
-    }
-    true
+    let c = s.statement_row(i);
+    row_ok(s, statement_uses(s, c), i, c)
 }
 
 // A false or a true has no word but next.
 fn both_absent(p: usize, q: usize) -> bool
     ensures { result ≡ absent p && absent q }
 {
-    if p != 0 {
-        return false;
-    }
-    q == 0
+    p == 0 && q == 0
 }
 
 // A labelled tree's child is a lower row.
 fn label_and_link(row: usize, p: usize, q: usize) -> bool
     ensures { result ≡ is_label p && is_link row q }
 {
-    if 1023 < p {
-        return false;
-    }
-    q < row
+    p <= 1023 && q < row
 }
 
 // A forest row, of which a sheet has the most: as `row_ok` of its uses, by its kind at once.
-fn forest_ok(pool: usize, row: usize, c: Row) -> bool
-    ensures { (s : Sheet) → s.grove.pool ≡ pool → result ≡ row_ok s 4 forest_uses row (cells_of c) }
+#[tactic(auto, unfolding(meaning::specs::Shape::word_ok, meaning::specs::Sheet::sheet_of))]
+fn forest_ok(s: &Sheet, i: usize) -> bool
+    ensures { result ≡ row_ok (sheet_of s.now) 4 forest_uses i ((grove_of s.now).row i) }
 {
-    if row <= c.r {
+    let c = s.forest_row(i);
+    if i <= c.r {
         return false;
     }
-    let kind = c.kind;
-    match kind {
-        1 => in_pool(pool, c.p, c.q),
-        2 | 3 => both_absent(c.p, c.q),
-        4 => label_and_link(row, c.p, c.q),
-        0 | 5..=65535 => false,
+    match tree_of(c) {
+        None => false,
+        Some(Tree::Text(offset, size)) => in_pool(s.pool(), offset, size),
+        Some(Tree::Bool(_)) => both_absent(c.p, c.q),
+        Some(Tree::Node(label, child)) => label_and_link(i, label, child),
     }
 }
 
-pub fn rows_ok(s: &[u8], l: Layout) -> bool
-    requires { Laid s.now l }
+// The rules of each table: every row's kind is one of the table's, and its words are as they must be.
+pub fn types_ok(s: &Sheet) -> bool
+    ensures { result ≡ types_ok (sheet_of s.now) }
+{
+    (1..=s.types()).all(|i| type_ok(s, i))
+}
+
+pub fn queries_ok(s: &Sheet) -> bool
+    ensures { result ≡ queries_ok (sheet_of s.now) }
+{
+    (1..=s.queries()).all(|i| query_ok(s, i))
+}
+
+pub fn statements_ok(s: &Sheet) -> bool
+    ensures { result ≡ statements_ok (sheet_of s.now) }
+{
+    (1..=s.statements()).all(|i| statement_ok(s, i))
+}
+
+pub fn rows_ok(s: &Sheet) -> bool
     ensures { result ≡ rows_ok (sheet_of s.now) }
 {
-    let mut i = 0;
-    while i < l.rows {
-        i += 1;
-        let c = sheet::forest_row(s, l, i);
-        if !forest_ok(l.pool, i, c) {
-            return false;
-        }
-    }
-    true
+    (1..=s.rows()).all(|i| forest_ok(s, i))
 }

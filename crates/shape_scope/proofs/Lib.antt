@@ -1,5 +1,5 @@
 pub mod ByKind
 pub mod Once
 pub mod Pass
-pub mod Arms
+pub mod Said
 pub mod Loops

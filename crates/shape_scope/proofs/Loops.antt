@@ -6,32 +6,16 @@ use Prim.Native.Nat.{ℕ, ◌+◌, ◌-◌, ◌≤◌, ◌<◌}
 use native.Mathlib.Decide.{ℕ_discrete}
 use native.Mathlib.Omega.{arith}
 use borrow.Author.Tests.{eq-eqb, ne_eqb}
-use lib.ListN.{replicate, length-replicate}
-use Rattle.meaning.specs.Sheet.{Cells, Script, script_of}
-use Rattle.meaning.specs.Kinds.{present}
+use lib.ListN.{get_or, replicate, length-replicate}
+use Rattle.meaning.specs.Sheet.{Script}
+use Rattle.meaning.specs.Kinds.{Query, Statement, query_form, statement_form, present}
 use Rattle.meaning.specs.Shape.{Scope, parameters_scope, scope_ok}
 use Rattle.meaning.specs.Laws.Words.{zeros}
-use Rattle.sheet.specs.Laid.{Laid}
-use Rattle.sheet.specs.declared.Layout.{Layout}
 use Rattle.shape_scope.specs.Scopes.{places, scope_of, seen, hand_of, after, Words, Handed, QueryDone, StatementDone, Rooted, Statements, Queries, Judged}
 use Rattle.shape_scope.specs.Places.{neat_small}
 use Rattle.shape_scope.proofs.Once.{Facts}
+use Rattle.shape_scope.proofs.Said.{query_says, statement_says}
 use Rattle.shape_scope.proofs.Pass.{one_body, main_no_body, statement_step, statement_refused, query_step, query_refused, all_scoped}
-
--- ---- the layout's counts
-
-module _ {s : List ℕ} {l : Layout} (laid : Laid s l) where
-  pub procedures_are : l.procedures ≡ (script_of s).procedures
-  unfolding script_of
-  procedures_are = laid.procedures
-
-  pub statements_are : l.statements ≡ (script_of s).statements
-  unfolding script_of
-  statements_are = laid.statements
-
-  pub queries_are : l.queries ≡ (script_of s).queries
-  unfolding script_of
-  queries_are = laid.queries
 
 -- ---- fresh words
 
@@ -46,12 +30,11 @@ fresh_seen e j = rw e (ap scope_of (zeros 513 j))
 
 module _ (S : Script) where
   pub record Bodies (c : ℕ) (l : List ℕ) : Type 0 where
-    pub words : Words l
     pub main : seen l S.main ≡ []
     pub bodies : (d : ℕ) → 1 ≤ d → d < c → d ≤ S.procedures → seen l (S.procedure_row d).body ≡ parameters_scope (present (S.procedure_row d).first (S.procedure_row d).second)
 
   pub bodies_none : {l : List ℕ} → l ≡ replicate 513 0 → Bodies 1 l
-  bodies_none e = record { words = fresh_words e; main = fresh_seen e S.main; bodies = λ d p q h. absurd (omega arith) }
+  bodies_none e = record { main = fresh_seen e S.main; bodies = λ d p q h. absurd (omega arith) }
 
   pub bodies_all : {c : ℕ} {l : List ℕ} → S.procedures < c → Bodies c l → Rooted S (seen l)
   bodies_all h b = record { main = b.main; bodies = λ d p q. b.bodies d p (omega arith) q }
@@ -68,7 +51,6 @@ module _ (S : Script) where
 
     pub bodies_more : Bodies (c + 1) new
     bodies_more = record {
-      words = h.words;
       main = apart S.main F.main_in.0 F.main_in.1 (λ e. main_no_body F S.main F.main_in.0 F.main_in.1 refl c p q e) ∙ b.main;
       bodies = λ d m n o. elim (ℕ_discrete c d) [
         | yes e ↦ rw (← e) (here ∙ is)
@@ -83,39 +65,32 @@ module _ (S : Script) where
 -- ---- statements
 
 module _ {S : Script} (F : Facts S) where
-  pub statements_start : {i : ℕ} {σ τ : ℕ → Scope} → i ≡ S.statements → Rooted S σ → Statements S i σ τ
-  statements_start e R = record { roots = R; passed = λ u l h. absurd (omega arith); parts = λ u l h. absurd (omega arith); asks = λ u l h. absurd (omega arith) }
-
-  module _ {i : ℕ} (p : 1 ≤ i) (q : i ≤ S.statements) {scopes scopes' asked asked' : List ℕ} (D : Statements S i (seen scopes) (seen asked)) {c : Cells} (e : c ≡ S.statement_row i) where
-    pub statement_more : {ok : Bool} → ok ≡ true → StatementDone c (seen scopes i) scopes scopes' asked asked' ok → (Words scopes') × (Words asked') × Statements S (i - 1) (seen scopes') (seen asked')
+  module _ {i : ℕ} (p : 1 ≤ i) (q : i ≤ S.statements) {scopes scopes' asked asked' : List ℕ} (D : Statements S i (seen scopes) (seen asked)) {c : Statement}
+      (e : c ≡ statement_form (S.statement_row i)) {x : ℕ} (g : x ≡ get_or scopes i 0) where
+    pub statement_more : {ok : Bool} → ok ≡ true → StatementDone c (scope_of x) scopes scopes' asked asked' ok → Statements S (i - 1) (seen scopes') (seen asked')
     statement_more {ok} t h =
-        let d : StatementDone (S.statement_row i) (seen scopes i) scopes scopes' asked asked' ok = rw e at h in
-        ((d.parts t).words, (d.asks t).words, statement_step F p q D (d.parts t).at (d.asks t).at (sym d.rule ∙ t))
+        let d : StatementDone (statement_form (S.statement_row i)) (seen scopes i) scopes scopes' asked asked' ok = rw (e, g) at h in
+        let a = statement_says (S.statement_row i) (seen scopes i) (F.call i p q) in
+        statement_step F p q D (rw (← a.0) at (d.parts t)).at (rw (← a.1) at (d.asks t)).at (a.2 ∙ sym d.rule ∙ t)
 
-    pub statement_fails : {ok : Bool} → ok ≡ false → StatementDone c (seen scopes i) scopes scopes' asked asked' ok → Judged S asked' false
+    pub statement_fails : {ok : Bool} → ok ≡ false → StatementDone c (scope_of x) scopes scopes' asked asked' ok → Judged S asked' false
     statement_fails f h = record {
-      refused = λ z. statement_refused F D p q (rw e at (sym h.rule ∙ f));
-      words = λ z. absurd (false≢true z);
+      refused = λ z. statement_refused F D p q ((statement_says (S.statement_row i) (seen scopes i) (F.call i p q)).2 ∙ rw (e, g) at (sym h.rule ∙ f));
       passed = λ z. absurd (false≢true z);
     }
 
-  pub statements_end : {i : ℕ} {σ : ℕ → Scope} {asked : List ℕ} → i ≡ 0 → Statements S i σ (seen asked) → Words asked → Judged S asked true
-  statements_end {i} {σ} e D w = record {
-    refused = λ z. absurd (false≢true (sym z));
-    words = λ z. w;
-    passed = λ z. record { σ = σ; above = rw e at D; passed = λ u l h. absurd (omega arith); parts = λ u l h. absurd (omega arith) };
-  }
-
   -- ---- queries
 
-  module _ {i : ℕ} (p : 1 ≤ i) (q : i ≤ S.queries) {scopes scopes' : List ℕ} (D : Queries S i (seen scopes)) {c : Cells} (e : c ≡ S.query_row i) where
-    pub query_more : {ok : Bool} → ok ≡ true → QueryDone c (seen scopes i) scopes scopes' ok → (Words scopes') × Queries S (i - 1) (seen scopes')
+  module _ {i : ℕ} (p : 1 ≤ i) (q : i ≤ S.queries) {scopes scopes' : List ℕ} (D : Queries S i (seen scopes)) {c : Query} (e : c ≡ query_form (S.query_row i))
+      {x : ℕ} (g : x ≡ get_or scopes i 0) where
+    pub query_more : {ok : Bool} → ok ≡ true → QueryDone c (scope_of x) scopes scopes' ok → Queries S (i - 1) (seen scopes')
     query_more {ok} t h =
-        let d : QueryDone (S.query_row i) (seen scopes i) scopes scopes' ok = rw e at h in
-        ((d.parts t).words, query_step F p q D (d.parts t).at (sym d.rule ∙ t))
+        let d : QueryDone (query_form (S.query_row i)) (seen scopes i) scopes scopes' ok = rw (e, g) at h in
+        let a = query_says (S.query_row i) (seen scopes i) in
+        query_step F p q D (rw (← a.0) at (d.parts t)).at (a.1 ∙ sym d.rule ∙ t)
 
-    pub query_fails : {ok : Bool} → ok ≡ false → QueryDone c (seen scopes i) scopes scopes' ok → false ≡ scope_ok S
-    query_fails f h = sym (query_refused F D p q (rw e at (sym h.rule ∙ f)))
+    pub query_fails : {ok : Bool} → ok ≡ false → QueryDone c (scope_of x) scopes scopes' ok → false ≡ scope_ok S
+    query_fails f h = sym (query_refused F D p q ((query_says (S.query_row i) (seen scopes i)).1 ∙ rw (e, g) at (sym h.rule ∙ f)))
 
   pub queries_end : {i : ℕ} {τ : ℕ → Scope} → i ≡ 0 → Queries S i τ → true ≡ scope_ok S
   queries_end e D = sym (all_scoped F (rw e at D))

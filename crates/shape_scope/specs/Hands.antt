@@ -5,8 +5,9 @@ use Rattle.std.proofs.Common.{ap, ◌∙◌, arith, eq-eqb, ne_eqb, get_or-set_s
 use Rattle.std.proofs.Math.Decide.{ℕ_discrete}
 use Rattle.std.proofs.Math.ListN.{get_or, length-set}
 use Rattle.meaning.specs.Sheet.{Cells}
+use Rattle.meaning.specs.Kinds.{present}
 use Rattle.meaning.specs.Shape.{Use, Uses, Scope, hit, hits}
-use Rattle.shape_scope.specs.Scopes.{Neat, scope_of, seen, Hand, hand_of, put, after, Each, none, more, takes, handed, Words, Handed}
+use Rattle.shape_scope.specs.Scopes.{Neat, scope_of, seen, Hand, hand_of, put, after, Each, none, more, takes, handed, argument_hands, Words, Handed}
 
 put_same : (σ : ℕ → Scope) (r : ℕ) (Γ : Scope) → put σ r Γ r ≡ Γ
 put_same σ r Γ = rw (eq-eqb r r refl)
@@ -21,44 +22,52 @@ unfolding after
 after_same [] σ ρ j e = e
 after_same (h ∷ l) σ ρ j e = after_same l (put σ h.row h.scope) (put ρ h.row h.scope) j (rw e)
 
-pub handed_none : {old : List ℕ} → Words old → Handed old old []
+pub handed_none : {old : List ℕ} → Handed old old []
 unfolding after
-handed_none w = record { words = w; at = λ j p q. refl }
+handed_none = record { at = λ j p q. refl }
 
 pub handed_more : {old mid new : List ℕ} {r : ℕ} {Γ : Scope} {l : List Hand} → Handed old mid (hand_of r Γ ∷ []) → Handed mid new l → Handed old new (hand_of r Γ ∷ l)
 unfolding after
-handed_more {old} {mid} {new} {r} {Γ} {l} f g = record {
-  words = g.words;
-  at = λ j p q. g.at j p q ∙ after_same l (seen mid) (put (seen old) r Γ) j (f.at j p q);
-}
+handed_more {old} {mid} {new} {r} {Γ} {l} f g = record { at = λ j p q. g.at j p q ∙ after_same l (seen mid) (put (seen old) r Γ) j (f.at j p q) }
 
 -- a word is stored
 module _ {old : List ℕ} (r x : ℕ) (w : Words old) where
-  pub hand_store : Neat x → r ≤ 512 → Handed old (set old r x) (hand_of r (scope_of x) ∷ [])
+  stored : r ≤ 512 → (j : ℕ) → r ≡ j → get_or (set old r x) j 0 ≡ x
+  stored l j e = rw (← e) (get_or-set_same old r x 0 (omega (arith, w.size)))
+
+  kept : (j : ℕ) → (r ≡ j → ⊥) → get_or (set old r x) j 0 ≡ get_or old j 0
+  kept j d = get_or-set_other old r j x 0 (λ e. d (sym e))
+
+  pub words_store : Neat x → r ≤ 512 → Words (set old r x)
+  words_store n l = record {
+    size = length-set old r x ∙ w.size;
+    neat = λ j. elim (ℕ_discrete r j) [ yes e ↦ rw (stored l j e) n | no d ↦ rw (kept j d) (w.neat j) ];
+  }
+
+  pub hand_store : r ≤ 512 → Handed old (set old r x) (hand_of r (scope_of x) ∷ [])
   unfolding after
-  hand_store n l = record {
-    words = record { size = length-set old r x ∙ w.size; neat = λ j. neat_at j };
+  hand_store l = record {
     at = λ j p q. elim (ℕ_discrete r j) [
-      | yes e ↦ (ap scope_of (stored j e) ∙ sym (rw (eq-eqb r j e)))
+      | yes e ↦ (ap scope_of (stored l j e) ∙ sym (rw (eq-eqb r j e)))
       | no d ↦ (ap scope_of (kept j d) ∙ sym (put_other (seen old) r (scope_of x) j d))
     ];
   }
-    where
-      stored : (j : ℕ) → r ≡ j → get_or (set old r x) j 0 ≡ x
-      stored j e = rw (← e) (get_or-set_same old r x 0 (omega (arith, w.size)))
 
-      kept : (j : ℕ) → (r ≡ j → ⊥) → get_or (set old r x) j 0 ≡ get_or old j 0
-      kept j d = get_or-set_other old r j x 0 (λ e. d (sym e))
+pub hand_past : {old : List ℕ} (r : ℕ) (Γ : Scope) → 512 < r → Handed old old (hand_of r Γ ∷ [])
+unfolding after
+hand_past {old} r Γ l = record { at = λ j p q. sym (put_other (seen old) r Γ j (λ e. omega arith)) }
 
-      neat_at : (j : ℕ) → Neat (get_or (set old r x) j 0)
-      neat_at j = elim (ℕ_discrete r j) [
-        | yes e ↦ rw (stored j e) n
-        | no d ↦ rw (kept j d) (w.neat j)
-      ]
+-- a call's arguments: what is handed to row 0 changes no row
+module _ {old : List ℕ} (first second : ℕ) (Γ : Scope) where
+  pub arguments_none : first ≡ 0 → Handed old old (argument_hands (present first second) Γ)
+  arguments_none e = rw (eq-eqb first 0 e) handed_none
 
-  pub hand_past : (Γ : Scope) → 512 < r → Handed old old (hand_of r Γ ∷ [])
+  pub arguments_there : {new : List ℕ} → (first ≡ 0 → ⊥) → Handed old new (hand_of first Γ ∷ hand_of second Γ ∷ []) → Handed old new (argument_hands (present first second) Γ)
   unfolding after
-  hand_past Γ l = record { words = w; at = λ j p q. sym (put_other (seen old) r Γ j (λ e. omega arith)) }
+  arguments_there {new} d h = elim (ℕ_discrete second 0) [
+    | yes e ↦ rw (ne_eqb first 0 d, eq-eqb second 0 e) (record { at = λ j p q. h.at j p q ∙ put_other (put (seen old) first Γ) second Γ j (λ z. omega arith) })
+    | no f ↦ rw (ne_eqb first 0 d, ne_eqb second 0 f) h
+  ]
 
 -- ---- how often a row is handed a scope
 

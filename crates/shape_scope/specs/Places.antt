@@ -1,8 +1,8 @@
 -- A scope's word: its length, what each place holds, and one place more, digit by digit.
-use Rattle.std.specs.Prelude.{◌≡◌, refl, [], ◌∷◌, ◌++◌, true, false, ◌&&◌, ℕ, zero, suc, ◌+◌, ◌*◌, ◌/◌, ◌%◌, ◌^◌, ◌≤◌, ◌<◌, eqb, get_or, length}
-use Rattle.std.proofs.Common.{sym, ◌∙◌, inl, inr, not-suc-le-zero, le_of_suc-le-suc, eq-or-lt_of_le, pow-suc, arith, pow_pos, pow_mono, length-append, get_or-append-add}
+use Rattle.std.specs.Prelude.{◌≡◌, refl, [], ◌∷◌, ◌++◌, true, ◌&&◌, ℕ, zero, suc, ◌+◌, ◌*◌, ◌/◌, ◌%◌, ◌^◌, ◌≤◌, ◌<◌, eqb, get_or, length}
+use Rattle.std.proofs.Common.{sym, ◌∙◌, inl, inr, not-suc-le-zero, le_of_suc-le-suc, eq-or-lt_of_le, pow-suc, arith, pow_pos, length-append, get_or-append-add}
 use Rattle.std.proofs.Math.Path.{ap}
-use borrow.Author.Tests.{ltb-true, lt-ltb, le-ltb, eq-eqb, ne_eqb}
+use borrow.Author.Tests.{ltb-true, lt-ltb, eq-eqb, ne_eqb}
 use Rattle.std.proofs.Math.Arith.{lt-one}
 use Rattle.std.proofs.Math.ListN.{get_or-append}
 use Rattle.meaning.specs.Shape.{has_place, Scope, a_forest, a_tree, in_scope, holds_tree, parameters_scope}
@@ -105,24 +105,10 @@ module _ (x y : ℕ) (h : Neat x) (l : x % 32 < 16) (e : y ≡ x + 1 + 32 * 2 ^ 
 pub neat_small : (x : ℕ) → x ≤ 16 → Neat x
 neat_small x l = let z : x / 32 ≡ 0 = omega arith in record { few = omega arith; clean = rw z (pow_pos (x % 32)) }
 
--- ---- bounds of the words
-
-two_small : (n : ℕ) → n ≤ 16 → 2 ^ n ≤ 65536
-two_small n l = pow_mono l
-
-pub below_pow : (x : ℕ) → Neat x → x % 32 < 16 → x < 2097152
-below_pow x h l = omega (arith, two_small (x % 32) (omega arith), h.clean)
-
-pub power_small : (n y : ℕ) → n < 16 → y ≡ 2 ^ n → y ≤ 65536
-power_small n y l e = omega (arith, two_small n (omega arith))
-
 -- ---- the tests of the code
 
 pub seen_tree : (x v : ℕ) → v < x % 32 → eqb (x / 32 / 2 ^ v % 2) 1 ≡ in_scope (scope_of x) v && holds_tree (get_or (scope_of x) v a_forest)
 seen_tree x v l = sym (rw (count_is x, lt-ltb v (x % 32) l, tree_at_lem x v l))
-
-pub unseen : (x v : ℕ) → x % 32 ≤ v → false ≡ in_scope (scope_of x) v && holds_tree (get_or (scope_of x) v a_forest)
-unseen x v l = sym (rw (count_is x, le-ltb v (x % 32) l))
 
 module _ (first second : ℕ) where
   pub none_first : first ≡ 0 → scope_of 0 ≡ parameters_scope (present first second)

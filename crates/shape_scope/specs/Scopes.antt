@@ -1,7 +1,7 @@
 -- Scopes as words, and what a row hands down: a word says how many places there are and which of them hold trees, and each row's parts get their scope from it.
 use Rattle.std.specs.Prelude.{◌≡◌, List, [], ◌∷◌, ◌++◌, Bool, true, false, ◌&&◌, cond, ℕ, zero, suc, ◌/◌, ◌%◌, ◌^◌, ◌≤◌, ◌<◌, eqb, get_or, length}
 use Rattle.meaning.specs.Sheet.{Cells, Procedure, Script, sheet_of}
-use Rattle.meaning.specs.Kinds.{present}
+use Rattle.meaning.specs.Kinds.{Query, Statement, present}
 use Rattle.meaning.specs.Shape.{
   Use,
   Uses,
@@ -126,7 +126,6 @@ pub record Words (l : List ℕ) : Type 0 where
 
 -- the words of the rows 1 to 512 after a list of hands
 pub record Handed (old new : List ℕ) (l : List Hand) : Type 0 where
-  pub words : Words new
   pub at : (j : ℕ) → 1 ≤ j → j ≤ 512 → seen new j ≡ after l (seen old) j
 
 -- a binder: it finds a free place and, where it does, hands scopes down
@@ -134,16 +133,105 @@ pub record Bound (Γ : Scope) (l : List Hand) (old new : List ℕ) (ok : Bool) :
   pub rule : ok ≡ has_place Γ
   pub hands : ok ≡ true → Handed old new l
 
--- a query row under its scope: its own rule and, where that is passed, the scopes of its parts
-pub record QueryDone (c : Cells) (Γ : Scope) (old new : List ℕ) (ok : Bool) : Type 0 where
-  pub rule : ok ≡ query_rule c Γ
-  pub parts : ok ≡ true → Handed old new (query_parts c Γ)
+-- ---- what a row says, and the scopes that it hands down (proofs/Said.antt: they are those of its words' uses)
 
--- a statement row under its scope; its queries get theirs from it
-pub record StatementDone (c : Cells) (Γ : Scope) (old new asked asked' : List ℕ) (ok : Bool) : Type 0 where
-  pub rule : ok ≡ statement_rule c Γ
-  pub parts : ok ≡ true → Handed old new (statement_parts c Γ)
-  pub asks : ok ≡ true → Handed asked asked' (statement_asks c Γ)
+abbrev pub query_hands : Query → Scope → List Hand
+query_hands Query.none Γ = []
+query_hands Query.empty Γ = []
+query_hands (Query.join p q) Γ = hand_of p Γ ∷ hand_of q Γ ∷ []
+query_hands (Query.tree l q) Γ = hand_of q Γ ∷ []
+query_hands (Query.text o n) Γ = []
+query_hands (Query.bool b) Γ = []
+query_hands (Query.variable v) Γ = []
+query_hands (Query.letin p q) Γ = hand_of p Γ ∷ hand_of q (with_forest Γ) ∷ []
+query_hands (Query.if p q r) Γ = hand_of p Γ ∷ hand_of q Γ ∷ hand_of r Γ ∷ []
+query_hands (Query.same p q) Γ = hand_of p Γ ∷ hand_of q Γ ∷ []
+query_hands (Query.children v) Γ = []
+query_hands (Query.pick p l) Γ = hand_of p Γ ∷ []
+query_hands (Query.for p q) Γ = hand_of p Γ ∷ hand_of q (with_tree Γ) ∷ []
+
+abbrev pub query_test : Query → Scope → Bool
+query_test Query.none Γ = true
+query_test Query.empty Γ = true
+query_test (Query.join p q) Γ = true
+query_test (Query.tree l q) Γ = true
+query_test (Query.text o n) Γ = true
+query_test (Query.bool b) Γ = true
+query_test (Query.variable v) Γ = in_scope Γ v
+query_test (Query.letin p q) Γ = has_place Γ
+query_test (Query.if p q r) Γ = true
+query_test (Query.same p q) Γ = true
+query_test (Query.children v) Γ = in_scope Γ v && holds_tree (get_or Γ v a_forest)
+query_test (Query.pick p l) Γ = true
+query_test (Query.for p q) Γ = has_place Γ
+
+abbrev pub statement_hands : Statement → Scope → List Hand
+statement_hands Statement.none Γ = []
+statement_hands Statement.skip Γ = []
+statement_hands (Statement.then p q) Γ = hand_of p Γ ∷ hand_of q Γ ∷ []
+statement_hands (Statement.if p q r) Γ = hand_of q Γ ∷ hand_of r Γ ∷ []
+statement_hands (Statement.insert p) Γ = []
+statement_hands Statement.delete Γ = []
+statement_hands (Statement.rename l) Γ = []
+statement_hands (Statement.letin p q) Γ = hand_of q (with_forest Γ) ∷ []
+statement_hands (Statement.snapshot p) Γ = hand_of p (with_forest Γ) ∷ []
+statement_hands (Statement.test t r) Γ = hand_of r Γ ∷ []
+statement_hands (Statement.children p) Γ = hand_of p Γ ∷ []
+statement_hands (Statement.left p) Γ = hand_of p Γ ∷ []
+statement_hands (Statement.right p) Γ = hand_of p Γ ∷ []
+statement_hands (Statement.iter p) Γ = hand_of p Γ ∷ []
+statement_hands (Statement.call c l) Γ = []
+
+-- the arguments that are there
+abbrev pub argument_hands : List ℕ → Scope → List Hand
+argument_hands [] Γ = []
+argument_hands (q ∷ l) Γ = hand_of q Γ ∷ argument_hands l Γ
+
+-- to its queries
+abbrev pub query_hands_of : Statement → Scope → List Hand
+query_hands_of Statement.none Γ = []
+query_hands_of Statement.skip Γ = []
+query_hands_of (Statement.then p q) Γ = []
+query_hands_of (Statement.if p q r) Γ = hand_of p Γ ∷ []
+query_hands_of (Statement.insert p) Γ = hand_of p Γ ∷ []
+query_hands_of Statement.delete Γ = []
+query_hands_of (Statement.rename l) Γ = []
+query_hands_of (Statement.letin p q) Γ = hand_of p Γ ∷ []
+query_hands_of (Statement.snapshot p) Γ = []
+query_hands_of (Statement.test t r) Γ = []
+query_hands_of (Statement.children p) Γ = []
+query_hands_of (Statement.left p) Γ = []
+query_hands_of (Statement.right p) Γ = []
+query_hands_of (Statement.iter p) Γ = []
+query_hands_of (Statement.call c l) Γ = argument_hands l Γ
+
+abbrev pub statement_test : Statement → Scope → Bool
+statement_test Statement.none Γ = true
+statement_test Statement.skip Γ = true
+statement_test (Statement.then p q) Γ = true
+statement_test (Statement.if p q r) Γ = true
+statement_test (Statement.insert p) Γ = true
+statement_test Statement.delete Γ = true
+statement_test (Statement.rename l) Γ = true
+statement_test (Statement.letin p q) Γ = has_place Γ
+statement_test (Statement.snapshot p) Γ = has_place Γ
+statement_test (Statement.test t r) Γ = true
+statement_test (Statement.children p) Γ = true
+statement_test (Statement.left p) Γ = true
+statement_test (Statement.right p) Γ = true
+statement_test (Statement.iter p) Γ = true
+statement_test (Statement.call c l) Γ = true
+
+-- a query under its scope: its own rule and, where that is passed, the scopes of its parts
+pub record QueryDone (c : Query) (Γ : Scope) (old new : List ℕ) (ok : Bool) : Type 0 where
+  pub rule : ok ≡ query_test c Γ
+  pub parts : ok ≡ true → Handed old new (query_hands c Γ)
+
+-- a statement under its scope; its queries get theirs from it
+pub record StatementDone (c : Statement) (Γ : Scope) (old new asked asked' : List ℕ) (ok : Bool) : Type 0 where
+  pub rule : ok ≡ statement_test c Γ
+  pub parts : ok ≡ true → Handed old new (statement_hands c Γ)
+  pub asks : ok ≡ true → Handed asked asked' (query_hands_of c Γ)
 
 -- ---- the pass from the top down: σ holds the scopes of statements, τ those of queries
 
@@ -169,5 +257,4 @@ module _ (S : Script) where
   -- all statements were judged
   pub record Judged (asked : List ℕ) (ok : Bool) : Type 0 where
     pub refused : ok ≡ false → scope_ok S ≡ false
-    pub words : ok ≡ true → Words asked
     pub passed : ok ≡ true → Queries S.queries (seen asked)

@@ -8,161 +8,169 @@ ghost use Rattle.std.specs.Prelude.{◌≡◌, true, replicate};
 ghost use Rattle.meaning.specs.Sheet.{script_of};
 ghost use Rattle.meaning.specs.Kinds.{present};
 ghost use Rattle.meaning.specs.Shape.{parameters_scope, scope_ok};
-ghost use Rattle.sheet.specs.Laid.{Laid, cells_of};
-ghost use Rattle.shape_scope.specs.Scopes.{Before, Neat, scope_of, seen, Words, QueryDone, StatementDone, Rooted, Queries, Judged};
+ghost use Rattle.sheet.specs.Forms.{query_said, statement_said};
+ghost use Rattle.shape_scope.specs.Scopes.{
+  Before,
+  scope_of,
+  seen,
+  argument_hands,
+  Handed,
+  QueryDone,
+  StatementDone,
+  Rooted,
+  Queries,
+  Judged,
+};
 
-use bits::ROWS;
-use sheet::{Layout, Row};
+use crate::word::{Place, ScopeWord, Scopes};
+use sheet::Sheet;
+use sheet::forms::{Query, Statement};
 
-// A query row under its scope: its own rule, and the scopes of its parts.
-fn query_in_scope(c: Row, x: u64, scopes: &mut [u64; ROWS]) -> bool
-    requires { (Words scopes.old) × (Neat x) }
-    ensures { QueryDone (cells_of c) (scope_of x) scopes.old scopes.new result }
+// A query under its scope: its own rule, and the scopes of its parts.
+#[tactic(auto, using(crate::specs::Hands::handed_none, crate::specs::Hands::handed_more))]
+fn query_in_scope(c: Query, x: ScopeWord, scopes: &mut Scopes) -> bool
+    ensures { QueryDone (query_said c) (scope_of x.word) scopes.old scopes.new result }
 {
-    let kind = c.kind;
-    match kind {
-        1 | 4 | 5 | 6 => true,
-        2 | 10 => {
-            crate::word::hand_two(scopes, c.p, x, c.q, x);
+    match c {
+        Query::Nothing | Query::Empty | Query::Text(_, _) | Query::Bool(_) => true,
+        Query::Join(p, q) | Query::Same(p, q) => {
+            scopes.hand_two(p, x, q, x);
             true
         }
-        3 => {
-            crate::word::hand(scopes, c.q, x);
+        Query::Tree(_, p) | Query::Pick(p, _) => {
+            scopes.hand(p, x);
             true
         }
-        7 => crate::word::sees(x, c.p),
-        8 => crate::word::hand_let(scopes, c.p, c.q, x),
-        9 => {
-            crate::word::hand(scopes, c.p, x);
-            crate::word::hand_two(scopes, c.q, x, c.r, x);
+        Query::Variable(v) => word::sees(x.word, v),
+        Query::Let(p, q) => scopes.bind_value(p, q, x, Place::Forest),
+        Query::If(p, q, r) => {
+            scopes.hand(p, x);
+            scopes.hand_two(q, x, r, x);
             true
         }
-        11 => crate::word::sees_tree(x, c.p),
-        12 => {
-            crate::word::hand(scopes, c.p, x);
-            true
-        }
-        13 => crate::word::hand_for(scopes, c.p, c.q, x),
-        0 | 14..=65535 => true,
+        Query::Children(v) => word::sees_tree(x.word, v),
+        Query::For(p, q) => scopes.bind_value(p, q, x, Place::Tree),
     }
 }
 
-// A statement row under its scope; its queries get theirs from it.
-fn statement_in_scope(c: Row, x: u64, scopes: &mut [u64; ROWS], asked: &mut [u64; ROWS]) -> bool
-    requires { (Words scopes.old) × (Words asked.old) × (Neat x) }
-    ensures { StatementDone (cells_of c) (scope_of x) scopes.old scopes.new asked.old
-        asked.new result }
+// The arguments of a call, queries: one that is absent is 0, and the second is there only if the first is.
+#[tactic(auto, using(crate::specs::Hands::arguments_none, crate::specs::Hands::arguments_there))]
+fn hand_arguments(asked: &mut Scopes, first: usize, second: usize, x: ScopeWord)
+    ensures { Handed asked.old asked.new (argument_hands (present first second) (scope_of x.word)) }
 {
-    let kind = c.kind;
-    match kind {
-        1 | 5 | 6 => true,
-        2 => {
-            crate::word::hand_two(scopes, c.p, x, c.q, x);
+    if first != 0 {
+        asked.hand_two(first, x, second, x);
+    }
+}
+
+// A statement under its scope; its queries get theirs from it.
+#[tactic(auto, using(crate::specs::Hands::handed_none, crate::specs::Hands::handed_more))]
+fn statement_in_scope(c: Statement, x: ScopeWord, scopes: &mut Scopes, asked: &mut Scopes) -> bool
+    ensures { StatementDone (statement_said c) (scope_of x.word) scopes.old scopes.new asked.old asked.new result }
+{
+    match c {
+        Statement::Nothing | Statement::Skip | Statement::Delete | Statement::Rename(_) => true,
+        Statement::Then(p, q) => {
+            scopes.hand_two(p, x, q, x);
             true
         }
-        3 => {
-            crate::word::hand(asked, c.p, x);
-            crate::word::hand_two(scopes, c.q, x, c.r, x);
+        Statement::If(p, q, r) => {
+            asked.hand(p, x);
+            scopes.hand_two(q, x, r, x);
             true
         }
-        4 => {
-            crate::word::hand(asked, c.p, x);
+        Statement::Insert(p) => {
+            asked.hand(p, x);
             true
         }
-        7 => {
-            crate::word::hand(asked, c.p, x);
-            crate::word::hand_forest(scopes, c.q, x)
+        Statement::Let(p, q) => {
+            asked.hand(p, x);
+            scopes.bind(q, x, Place::Forest)
         }
-        8 => crate::word::hand_forest(scopes, c.p, x),
-        9 => {
-            crate::word::hand(scopes, c.r, x);
+        Statement::Snapshot(p) => scopes.bind(p, x, Place::Forest),
+        Statement::Test(_, p)
+        | Statement::Children(p)
+        | Statement::Left(p)
+        | Statement::Right(p)
+        | Statement::Iter(p) => {
+            scopes.hand(p, x);
             true
         }
-        10 | 11 | 12 | 13 => {
-            crate::word::hand(scopes, c.p, x);
+        Statement::Call(_, first, second) => {
+            hand_arguments(asked, first, second, x);
             true
         }
-        14 => {
-            crate::word::hand_two(asked, c.q, x, c.r, x);
-            true
-        }
-        0 | 15..=65535 => true,
     }
 }
 
 // The scope of a body: its parameters, which are forests.
-fn parameters(first: usize, second: usize) -> u64
-    ensures { (scope_of result ≡ parameters_scope (present first second)) × (Neat result) }
+fn parameters(first: usize, second: usize) -> ScopeWord
+    ensures { scope_of result.word ≡ parameters_scope (present first second) }
 {
-    if first == 0 {
-        return 0;
+    ScopeWord {
+        word: match (first, second) {
+            (0, _) => 0,
+            (_, 0) => 1,
+            _ => 2,
+        },
     }
-    if second == 0 {
-        return 1;
-    }
-    2
 }
 
+// What Shape has settled before (`Before`) stands as a clause of each function below: they hand it on as it is, and a type that carries
+// it would be longer than the four clauses.
+
 // Main has no variables; a body sees its parameters only.
-fn hand_bodies(s: &[u8], l: Layout, scopes: &mut [u64; ROWS])
-    requires laid { (Laid s.now l) × (Before s.now) }
-    requires scopes_value { scopes.old ≡ replicate 513 0 }
-    ensures { (Words scopes.new) × (Rooted (script_of s.now) (seen scopes.new)) }
+fn hand_bodies(s: &Sheet, scopes: &mut Scopes)
+    requires before { Before s.now }
+    requires fresh { scopes.old ≡ replicate 513 0 }
+    ensures { Rooted (script_of s.now) (seen scopes.new) }
 {
-    let mut c = 1;
-    while c <= l.procedures {
-        let row = sheet::procedure_row(s, l, c);
-        crate::word::hand(scopes, row.body, parameters(row.first, row.second));
-        c += 1;
+    for c in 1..=s.procedures() {
+        let row = s.procedure_row(c);
+        scopes.hand(row.body, parameters(row.first, row.second));
     }
 }
 
 // Each statement from the top down, under the scope that it was handed.
-fn statements_scoped(s: &[u8], l: Layout, scopes: &mut [u64; ROWS], asked: &mut [u64; ROWS]) -> bool
-    requires laid { (Laid s.now l) × (Before s.now) }
-    requires words { (Words scopes.old) × (Rooted (script_of s.now) (seen scopes.old)) }
-    requires words_2 { Words asked.old }
+fn statements_scoped(s: &Sheet, scopes: &mut Scopes, asked: &mut Scopes) -> bool
+    requires before { Before s.now }
+    requires rooted { Rooted (script_of s.now) (seen scopes.old) }
     ensures { Judged (script_of s.now) asked.new result }
 {
-    let mut i = l.statements;
-    while 0 < i {
-        let x = scopes[i];
-        if !statement_in_scope(sheet::statement_row(s, l, i), x, scopes, asked) {
+    for i in (1..=s.statements()).rev() {
+        if !statement_in_scope(
+            s.statement_row(i).as_statement(),
+            scopes.row(i),
+            scopes,
+            asked,
+        ) {
             return false;
         }
-        i -= 1;
     }
     true
 }
 
 // Each query from the top down, once the statements have handed theirs down.
-fn queries_scoped(s: &[u8], l: Layout, scopes: &mut [u64; ROWS]) -> bool
-    requires laid { (Laid s.now l) × (Before s.now) }
-    requires words { (Words scopes.old) × (Queries (script_of s.now) (script_of s.now).queries (seen scopes.old)) }
+fn queries_scoped(s: &Sheet, scopes: &mut Scopes) -> bool
+    requires before { Before s.now }
+    requires asked { Queries (script_of s.now) (script_of s.now).queries (seen scopes.old) }
     ensures { result ≡ scope_ok (script_of s.now) }
 {
-    let mut i = l.queries;
-    while 0 < i {
-        let x = scopes[i];
-        if !query_in_scope(sheet::query_row(s, l, i), x, scopes) {
+    for i in (1..=s.queries()).rev() {
+        if !query_in_scope(s.query_row(i).as_query(), scopes.row(i), scopes) {
             return false;
         }
-        i -= 1;
     }
     true
 }
 
 // Whether every variable is in scope, and every binder finds a place.
-pub fn scope_ok(s: &[u8], l: Layout) -> bool
-    requires laid { Laid s.now l }
+pub fn scope_ok(s: &Sheet) -> bool
     requires before { Before s.now }
     ensures { result ≡ scope_ok (script_of s.now) }
 {
-    let mut scopes = [0u64; ROWS];
-    let mut asked = [0u64; ROWS];
-    hand_bodies(s, l, &mut scopes);
-    if !statements_scoped(s, l, &mut scopes, &mut asked) {
-        return false;
-    }
-    queries_scoped(s, l, &mut asked)
+    let mut scopes = Scopes::new();
+    let mut asked = Scopes::new();
+    hand_bodies(s, &mut scopes);
+    statements_scoped(s, &mut scopes, &mut asked) && queries_scoped(s, &mut asked)
 }

@@ -2,3 +2,5 @@
 pub mod Whole
 pub mod Laid
 pub mod Counts
+pub mod Table
+pub mod Forms

@@ -1,17 +1,32 @@
 // A lent sheet: its header, where each table begins, and one row of each table as a small struct. What is no row of its table reads as
 // zeros, so nobody above asks about bounds.
-// A row is read of a sheet that is whole, so no word is tested for the end of the bytes.
-#![tactic(auto)]
+// A sheet is made once, of bytes that are whole, so no word of a row is tested for the end of the bytes.
+#![tactic(auto, unfolding(meaning::specs::Sheet::script_of, meaning::specs::Sheet::grove_of, meaning::specs::Sheet::sheet_of))]
 
-ghost use Rattle.std.specs.Prelude.{◌≡◌, ℕ, ◌+◌, ◌*◌, ◌-◌, ◌<◌, ◌≤◌};
-ghost use Rattle.meaning.specs.Sheet.{blank, need, types_in_header, pool_at, script_of, grove_of, row3, row4, row5};
+pub mod forms;
+
+ghost use Rattle.std.specs.Prelude.{◌≡◌, true, false, ℕ, ◌+◌, ◌*◌, ◌-◌, ◌<◌, ◌≤◌, IfSome, IsNone, take, drop, length};
+ghost use Rattle.meaning.specs.Tests.{in_table};
+ghost use Rattle.meaning.specs.Sheet.{
+  need,
+  types_in_header,
+  pool_at,
+  rows_at,
+  script_of,
+  grove_of,
+  sheet_of,
+  row4,
+};
 ghost use Rattle.sheet.specs.Laid.{Laid, Words, cells_of, procedure_of};
 ghost use Rattle.sheet.specs.Whole.{Whole, Lies};
+ghost use Rattle.sheet.specs.Table.{rows_in, types_in};
 
+use std::marker::Model;
 use words::{word_at, word_in};
 
 // One row of types, queries, statements or forests: its kind and its words. Types have no `r`; in a forest row it is the next tree.
-#[derive(Clone, Copy)]
+// A kind is a word, so `as u16` loses nothing; `try_from` would have an error that cannot be.
+#[derive(Clone, Copy, Default)]
 pub struct Row {
     pub kind: u16,
     pub p: usize,
@@ -19,7 +34,7 @@ pub struct Row {
     pub r: usize,
 }
 
-#[derive(Clone, Copy)]
+#[derive(Clone, Copy, Default)]
 pub struct Procedure {
     pub first: usize,
     pub second: usize,
@@ -30,26 +45,26 @@ pub struct Procedure {
 
 // The header's words, and the word at which each table begins. Names begin at word 13.
 #[derive(Clone, Copy)]
-pub struct Layout {
-    pub names: usize,
-    pub types: usize,
-    pub queries: usize,
-    pub statements: usize,
-    pub procedures: usize,
-    pub rows: usize,
-    pub pool: usize,
-    pub a: usize,
-    pub b: usize,
-    pub main: usize,
-    pub root: usize,
-    pub check_fuel: usize,
-    pub run_fuel: usize,
-    pub types_at: usize,
-    pub queries_at: usize,
-    pub statements_at: usize,
-    pub procedures_at: usize,
-    pub rows_at: usize,
-    pub pool_at: usize,
+struct Layout {
+    names: usize,
+    types: usize,
+    queries: usize,
+    statements: usize,
+    procedures: usize,
+    rows: usize,
+    pool: usize,
+    a: usize,
+    b: usize,
+    main: usize,
+    root: usize,
+    check_fuel: usize,
+    run_fuel: usize,
+    types_at: usize,
+    queries_at: usize,
+    statements_at: usize,
+    procedures_at: usize,
+    rows_at: usize,
+    pool_at: usize,
 }
 
 // The byte at which the pool begins, and the bytes that the counts ask for, of any bytes: what lies past their end reads as 0.
@@ -80,7 +95,7 @@ pub fn types_told(s: &[u8]) -> usize
     word_at(s, 1)
 }
 
-pub fn lay_out(s: &[u8]) -> Layout
+fn lay_out(s: &[u8]) -> Layout
     requires { Whole s.now }
     ensures { Laid s.now result }
 {
@@ -118,185 +133,281 @@ pub fn lay_out(s: &[u8]) -> Layout
     }
 }
 
-fn no_row() -> Row
-    ensures { cells_of result ≡ blank }
+// The word at which row `r`, of a table of `n` rows of `width` words from word `at` on, begins; none where there is no such row.
+fn begin(at: usize, width: usize, n: usize, r: usize) -> Option<usize>
+    requires { (at < 4194304) × (width ≤ 5) × (n < 65536) }
+    ensures there { IfSome result (λ i. (in_table n r ≡ true) × (i ≡ at + width * (r - 1)) × (i + width ≤ at + width * n)) }
+    ensures none { IsNone result → in_table n r ≡ false }
 {
-    Row {
-        kind: 0,
-        p: 0,
-        q: 0,
-        r: 0,
+    if r == 0 || n < r {
+        return None;
     }
+    Some(at + width * (r - 1))
 }
 
-// Row `r` of a table of `n` rows of three words that begins at word `at`.
-pub fn row_of_three(s: &[u8], at: usize, n: usize, r: usize) -> Row
-    requires { Lies s.now at 3 n }
-    ensures { cells_of result ≡ row3 s.now at n r }
-{
-    if r == 0 {
-        return no_row();
-    }
-    if n < r {
-        return no_row();
-    }
-    let i = at + 3 * (r - 1);
-    Row {
-        kind: word_in(s, i) as u16,
-        p: word_in(s, i + 1),
-        q: word_in(s, i + 2),
-        r: 0,
-    }
+// Rows of types as they lie in bytes: a sheet's own, or a type written out.
+#[derive(Drop)]
+pub struct TypeTable<'a> {
+    bytes: &'a [u8],
+    at: usize,
+    rows: usize,
 }
 
-fn row_of_four(s: &[u8], at: usize, n: usize, r: usize) -> Row
-    requires { Lies s.now at 4 n }
-    ensures is { cells_of result ≡ row4 s.now at n r }
-    ensures small { Words (cells_of result) }
-{
-    if r == 0 {
-        return no_row();
+impl<'a> Model for TypeTable<'a> {
+    ghost use Rattle.sheet.specs.Table.{Table};
+    ghost use Rattle.sheet.specs.Whole.{Lies};
+
+    ghost Value = { Table };
+
+    ghost view = { λ t. record { bytes = t.bytes.now; at = t.at; rows = t.rows } };
+
+    ghost invariant = { λ t. Lies t.bytes.now t.at 3 t.rows };
+}
+
+impl<'a> TypeTable<'a> {
+    // `rows` rows from word `at` on.
+    pub fn of(bytes: &'a [u8], at: usize, rows: usize) -> TypeTable<'a>
+        requires { Lies bytes.now at 3 rows }
+        ensures { result ≡ record { bytes = bytes.now; at = at; rows = rows } }
+    {
+        TypeTable { bytes, at, rows }
     }
-    if n < r {
-        return no_row();
+
+    pub fn rows(&self) -> usize
+        ensures is { result ≡ self.now.rows }
+        ensures small { result < 65536 }
+    {
+        self.rows
     }
-    let i = at + 4 * (r - 1);
-    Row {
-        kind: word_in(s, i) as u16,
-        p: word_in(s, i + 1),
-        q: word_in(s, i + 2),
-        r: word_in(s, i + 3),
-    }
-}
 
-pub fn name_row(s: &[u8], l: Layout, x: usize) -> usize
-    requires { Laid s.now l }
-    ensures value { result ≡ (script_of s.now).name_row x }
-    ensures small { result < 65536 }
-{
-    if x == 0 {
-        return 0;
-    }
-    if l.names < x {
-        return 0;
-    }
-    word_in(s, 13 + (x - 1))
-}
-
-pub fn type_row(s: &[u8], l: Layout, r: usize) -> Row
-    requires { Laid s.now l }
-    ensures { cells_of result ≡ (script_of s.now).type_row r }
-{
-    row_of_three(s, l.types_at, l.types, r)
-}
-
-pub fn query_row(s: &[u8], l: Layout, r: usize) -> Row
-    requires { Laid s.now l }
-    ensures is { cells_of result ≡ (script_of s.now).query_row r }
-    ensures small { Words (cells_of result) }
-{
-    row_of_four(s, l.queries_at, l.queries, r)
-}
-
-pub fn statement_row(s: &[u8], l: Layout, r: usize) -> Row
-    requires { Laid s.now l }
-    ensures is { cells_of result ≡ (script_of s.now).statement_row r }
-    ensures small { Words (cells_of result) }
-{
-    row_of_four(s, l.statements_at, l.statements, r)
-}
-
-pub fn forest_row(s: &[u8], l: Layout, r: usize) -> Row
-    requires { Laid s.now l }
-    ensures { cells_of result ≡ (grove_of s.now).row r }
-{
-    row_of_four(s, l.rows_at, l.rows, r)
-}
-
-pub fn procedure_row(s: &[u8], l: Layout, c: usize) -> Procedure
-    requires { Laid s.now l }
-    ensures { procedure_of result ≡ (script_of s.now).procedure_row c }
-{
-    if c == 0 {
-        return Procedure {
-            first: 0,
-            second: 0,
-            input: 0,
-            output: 0,
-            body: 0,
+    pub fn row(&self, r: usize) -> Row
+        ensures { cells_of result ≡ rows_in self.now r }
+    {
+        let bytes = self.bytes;
+        let Some(i) = begin(self.at, 3, self.rows, r) else {
+            return Row::default();
         };
+        Row {
+            kind: word_in(bytes, i) as u16,
+            p: word_in(bytes, i + 1),
+            q: word_in(bytes, i + 2),
+            r: 0,
+        }
     }
-    if l.procedures < c {
-        return Procedure {
-            first: 0,
-            second: 0,
-            input: 0,
-            output: 0,
-            body: 0,
+}
+
+// Row `r` of a table of `n` rows of four words that begins at word `at`. (`forest_rows::row` reads lent rows, which have no table.)
+fn four(bytes: &[u8], at: usize, n: usize, r: usize) -> Row
+    requires { Lies bytes.now at 4 n }
+    ensures is { cells_of result ≡ row4 bytes.now at n r }
+    ensures small { Words (cells_of result) }
+{
+    let Some(i) = begin(at, 4, n, r) else {
+        return Row::default();
+    };
+    Row {
+        kind: word_in(bytes, i) as u16,
+        p: word_in(bytes, i + 1),
+        q: word_in(bytes, i + 2),
+        r: word_in(bytes, i + 3),
+    }
+}
+
+// The bytes of a sheet, all that its counts ask for, and where its tables begin in them.
+#[derive(Drop)]
+pub struct Sheet<'a> {
+    bytes: &'a [u8],
+    layout: Layout,
+}
+
+impl<'a> Model for Sheet<'a> {
+    ghost use Rattle.std.specs.Prelude.{List, ℕ};
+    ghost use Rattle.sheet.specs.Laid.{Laid};
+
+    ghost Value = { List ℕ };
+
+    ghost view = { λ s. s.bytes.now };
+
+    ghost invariant = { λ s. Laid s.bytes.now s.layout };
+}
+
+impl<'a> Sheet<'a> {
+    // None where bytes are missing.
+    pub fn of(bytes: &'a [u8]) -> Option<Sheet<'a>>
+        ensures whole { IfSome result (λ s. (s ≡ bytes.now) × Whole bytes.now) }
+        ensures short { IsNone result → length bytes.now < need bytes.now }
+    {
+        if bytes.len() < need_of(bytes) {
+            return None;
+        }
+        let layout = lay_out(bytes);
+        Some(Sheet { bytes, layout })
+    }
+
+    // All the bytes, with those past the sheet.
+    pub fn bytes(&self) -> &'a [u8]
+        ensures is { result.now ≡ self.now }
+        ensures whole { Whole self.now }
+    {
+        self.bytes
+    }
+
+    // The bytes of the forest's rows.
+    pub fn row_bytes(&self) -> &'a [u8]
+        ensures { result.now ≡ take (8 * (grove_of self.now).rows) (drop (2 * rows_at self.now) self.now) }
+    {
+        let from = 2 * self.layout.rows_at;
+        let to = from + 8 * self.layout.rows;
+        &self.bytes[from..to]
+    }
+
+    pub fn names(&self) -> usize
+        ensures is { result ≡ (script_of self.now).names }
+        ensures small { result < 65536 }
+    {
+        self.layout.names
+    }
+
+    pub fn types(&self) -> usize
+        ensures is { result ≡ (script_of self.now).types }
+        ensures small { result < 65536 }
+    {
+        self.layout.types
+    }
+
+    pub fn queries(&self) -> usize
+        ensures is { result ≡ (script_of self.now).queries }
+        ensures small { result < 65536 }
+    {
+        self.layout.queries
+    }
+
+    pub fn statements(&self) -> usize
+        ensures is { result ≡ (script_of self.now).statements }
+        ensures small { result < 65536 }
+    {
+        self.layout.statements
+    }
+
+    pub fn procedures(&self) -> usize
+        ensures is { result ≡ (script_of self.now).procedures }
+        ensures small { result < 65536 }
+    {
+        self.layout.procedures
+    }
+
+    pub fn rows(&self) -> usize
+        ensures is { result ≡ (grove_of self.now).rows }
+        ensures small { result < 65536 }
+    {
+        self.layout.rows
+    }
+
+    pub fn pool(&self) -> usize
+        ensures is { result ≡ (grove_of self.now).pool }
+        ensures small { result < 65536 }
+    {
+        self.layout.pool
+    }
+
+    pub fn a(&self) -> usize
+        ensures { result ≡ (script_of self.now).a }
+    {
+        self.layout.a
+    }
+
+    pub fn b(&self) -> usize
+        ensures { result ≡ (script_of self.now).b }
+    {
+        self.layout.b
+    }
+
+    pub fn main(&self) -> usize
+        ensures { result ≡ (script_of self.now).main }
+    {
+        self.layout.main
+    }
+
+    pub fn root(&self) -> usize
+        ensures { result ≡ (grove_of self.now).root }
+    {
+        self.layout.root
+    }
+
+    pub fn check_fuel(&self) -> usize
+        ensures { result ≡ (sheet_of self.now).check_fuel }
+    {
+        self.layout.check_fuel
+    }
+
+    pub fn run_fuel(&self) -> usize
+        ensures { result ≡ (sheet_of self.now).run_fuel }
+    {
+        self.layout.run_fuel
+    }
+
+    // The rows of types, as a table.
+    pub fn type_table(&self) -> TypeTable<'a>
+        ensures is { result ≡ types_in self.now }
+        ensures rows { (r : ℕ) → rows_in result r ≡ (script_of self.now).type_row r }
+    {
+        TypeTable::of(self.bytes, self.layout.types_at, self.layout.types)
+    }
+
+    pub fn name_row(&self, x: usize) -> usize
+        ensures value { result ≡ (script_of self.now).name_row x }
+        ensures small { result < 65536 }
+    {
+        let Some(i) = begin(13, 1, self.layout.names, x) else {
+            return 0;
         };
+        word_in(self.bytes, i)
     }
-    let i = l.procedures_at + 5 * (c - 1);
-    Procedure {
-        first: word_in(s, i),
-        second: word_in(s, i + 1),
-        input: word_in(s, i + 2),
-        output: word_in(s, i + 3),
-        body: word_in(s, i + 4),
+
+    pub fn type_row(&self, r: usize) -> Row
+        ensures { cells_of result ≡ (script_of self.now).type_row r }
+    {
+        self.type_table().row(r)
     }
-}
 
-// ---- rows without a layout to carry, by the header's words
+    pub fn query_row(&self, r: usize) -> Row
+        ensures is { cells_of result ≡ (script_of self.now).query_row r }
+        ensures small { Words (cells_of result) }
+    {
+        four(self.bytes, self.layout.queries_at, self.layout.queries, r)
+    }
 
-pub fn types_of(s: &[u8]) -> usize
-    requires { Whole s.now }
-    ensures is { result ≡ (script_of s.now).types }
-    ensures small { result < 65536 }
-{
-    word_in(s, 1)
-}
+    pub fn statement_row(&self, r: usize) -> Row
+        ensures is { cells_of result ≡ (script_of self.now).statement_row r }
+        ensures small { Words (cells_of result) }
+    {
+        four(
+            self.bytes,
+            self.layout.statements_at,
+            self.layout.statements,
+            r,
+        )
+    }
 
-pub fn name_at(s: &[u8], x: usize) -> usize
-    requires { Whole s.now }
-    ensures { result ≡ (script_of s.now).name_row x }
-{
-    name_row(s, lay_out(s), x)
-}
+    pub fn forest_row(&self, r: usize) -> Row
+        ensures { cells_of result ≡ (grove_of self.now).row r }
+    {
+        four(self.bytes, self.layout.rows_at, self.layout.rows, r)
+    }
 
-pub fn type_at(s: &[u8], r: usize) -> Row
-    requires { Whole s.now }
-    ensures { cells_of result ≡ (script_of s.now).type_row r }
-{
-    let names = word_in(s, 0);
-    let types = word_in(s, 1);
-    row_of_three(s, 13 + names, types, r)
-}
-
-pub fn query_at(s: &[u8], r: usize) -> Row
-    requires { Whole s.now }
-    ensures is { cells_of result ≡ (script_of s.now).query_row r }
-    ensures small { Words (cells_of result) }
-{
-    let names = word_in(s, 0);
-    let types = word_in(s, 1);
-    let queries = word_in(s, 2);
-    row_of_four(s, 13 + names + 3 * types, queries, r)
-}
-
-pub fn statement_at(s: &[u8], r: usize) -> Row
-    requires { Whole s.now }
-    ensures is { cells_of result ≡ (script_of s.now).statement_row r }
-    ensures small { Words (cells_of result) }
-{
-    let names = word_in(s, 0);
-    let types = word_in(s, 1);
-    let queries = word_in(s, 2);
-    let statements = word_in(s, 3);
-    row_of_four(s, 13 + names + 3 * types + 4 * queries, statements, r)
-}
-
-pub fn procedure_at(s: &[u8], c: usize) -> Procedure
-    requires { Whole s.now }
-    ensures { procedure_of result ≡ (script_of s.now).procedure_row c }
-{
-    procedure_row(s, lay_out(s), c)
+    pub fn procedure_row(&self, c: usize) -> Procedure
+        ensures { procedure_of result ≡ (script_of self.now).procedure_row c }
+    {
+        let bytes = self.bytes;
+        let Some(i) = begin(self.layout.procedures_at, 5, self.layout.procedures, c) else {
+            return Procedure::default();
+        };
+        Procedure {
+            first: word_in(bytes, i),
+            second: word_in(bytes, i + 1),
+            input: word_in(bytes, i + 2),
+            output: word_in(bytes, i + 3),
+            body: word_in(bytes, i + 4),
+        }
+    }
 }

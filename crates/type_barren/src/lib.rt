@@ -2,162 +2,111 @@
 // nothing, what is not marked is barren.
 #![tactic(auto)]
 
-ghost use Rattle.std.specs.Prelude.{◌≡◌, true, cond, ◌+◌, ◌<◌, ◌≤◌, set, length, eqb};
+ghost use Rattle.std.specs.Prelude.{◌≡◌, true, cond, ◌+◌, ◌<◌, ◌≤◌, set};
 ghost use Rattle.meaning.specs.Sheet.{script_of};
 ghost use Rattle.meaning.specs.Types.{declared};
 ghost use Rattle.meaning.specs.Shape.{shapely};
 ghost use Rattle.meaning.specs.Laws.Barren.{fills as filling, marks};
-ghost use Rattle.sheet.specs.Laid.{Laid};
 ghost use Rattle.type_barren.specs.Flags.{flag};
 ghost use Rattle.type_barren.specs.Marks.{Filled, Rounding, LowestUnmarked, SaysBarren};
 
 use bits::{Flags, ROWS};
-use sheet::Layout;
+use sheet::Sheet;
+use sheet::forms::Ty;
+
+// A flag for each name, 0 and the 32 that a sheet may have.
+type Marks = [bool; 33];
 
 // Whether row `i` has a forest, from the flags of the rows below it and the marks of the names.
-fn fills(s: &[u8], l: Layout, i: usize, marked: &[u8; 33], full: &Flags) -> bool
+fn fills(s: &Sheet, i: usize, marked: &Marks, full: &Flags) -> bool
     requires s_value { shapely s.now ≡ true }
-    requires laid { Laid s.now l }
-    requires le_i { (1 ≤ i) × (i ≤ l.types) }
+    requires le_i { (1 ≤ i) × (i ≤ (script_of s.now).types) }
     requires filled { Filled s.now (flag marked.now) full.now i }
     ensures { result ≡ filling (flag marked.now) (declared (script_of s.now) i) }
 {
-    let c = sheet::type_row(s, l, i);
-    let kind = c.kind;
-    let p = c.p;
-    let q = c.q;
-    match kind {
-        4 => full[q] == 1,
-        5 => {
-            if full[p] == 1 {
-                return full[q] == 1;
-            }
-            false
-        }
-        6 => {
-            if full[p] == 1 {
-                return true;
-            }
-            full[q] == 1
-        }
-        8 => marked[p] == 1,
-        0..=3 | 7 | 9..=65535 => true,
+    match s.type_row(i).as_type() {
+        Ty::Label(_, q) => full[q],
+        Ty::Sequence(p, q) => full[p] && full[q],
+        Ty::Choice(p, q) => full[p] || full[q],
+        Ty::Name(x) => marked[x],
+        _ => true,
     }
 }
 
-// A flag as a digit.
-pub fn digit(b: bool) -> u8
-    ensures { eqb result 1 ≡ b }
-{
-    if b {
-        return 1;
-    }
-    0
-}
-
-// The rows that have a forest, by the marks of the names.
-fn fill(s: &[u8], l: Layout, marked: &[u8; 33], full: &mut Flags)
-    requires s_value { shapely s.now ≡ true }
-    requires laid { Laid s.now l }
-    requires full_len { length full.old ≡ 513 }
+// The rows that have a forest, by the marks of the names. Not `1..=n`, here and in `mark_all`: that is left by two paths, and the second's
+// goal has no name that lasts.
+fn fill(s: &Sheet, marked: &Marks, full: &mut Flags)
+    requires { shapely s.now ≡ true }
     ensures { Filled s.now (flag marked.now) full.new ((script_of s.now).types + 1) }
 {
-    let mut i = 1;
-    while i <= l.types {
-        full[i] = digit(fills(s, l, i, marked, full));
-        i += 1;
+    for i in 1..s.types() + 1 {
+        full[i] = fills(s, i, marked, full);
     }
 }
 
 // Marks the name `x` if its row has a forest.
-fn mark(s: &[u8], l: Layout, x: usize, full: &Flags, marked: &mut [u8; 33])
+fn mark(s: &Sheet, x: usize, full: &Flags, marked: &mut Marks)
     requires s_value { shapely s.now ≡ true }
-    requires laid { Laid s.now l }
-    requires le_x { (1 ≤ x) × (x ≤ l.names) }
-    ensures { marked.new ≡ cond (flag full.now ((script_of s.now).name_row x))
-        (set marked.old x 1) marked.old }
+    requires le_x { (1 ≤ x) × (x ≤ (script_of s.now).names) }
+    ensures { marked.new ≡ cond (flag full.now ((script_of s.now).name_row x)) (set marked.old x true) marked.old }
 {
-    if full[sheet::name_row(s, l, x)] == 1 {
-        marked[x] = 1;
+    if full[s.name_row(x)] {
+        marked[x] = true;
     }
 }
 
 // Marks each name whose row has a forest.
-fn mark_all(s: &[u8], l: Layout, full: &Flags, marked: &mut [u8; 33])
+fn mark_all(s: &Sheet, full: &Flags, marked: &mut Marks)
     requires s_value { shapely s.now ≡ true }
-    requires laid { Laid s.now l }
     requires filled { Filled s.now (flag marked.old) full.now ((script_of s.now).types + 1) }
-    requires marked_len { length marked.old ≡ 33 }
     ensures { Rounding s.now marked.old marked.new ((script_of s.now).names + 1) }
 {
-    let mut x = 1;
-    while x <= l.names {
-        mark(s, l, x, full, marked);
-        x += 1;
+    for x in 1..s.names() + 1 {
+        mark(s, x, full, marked);
     }
 }
 
-fn round(s: &[u8], l: Layout, full: &mut Flags, marked: &mut [u8; 33])
-    requires s_value { shapely s.now ≡ true }
-    requires laid { Laid s.now l }
-    requires full_len { (length full.old ≡ 513) × (length marked.old ≡ 33) }
-    ensures full_len_2 { length full.new ≡ 513 }
-    ensures rounding { Rounding s.now marked.old marked.new ((script_of s.now).names + 1) }
+fn round(s: &Sheet, full: &mut Flags, marked: &mut Marks)
+    requires { shapely s.now ≡ true }
+    ensures { Rounding s.now marked.old marked.new ((script_of s.now).names + 1) }
 {
-    fill(s, l, marked, full);
-    mark_all(s, l, full, marked);
+    fill(s, marked, full);
+    mark_all(s, full, marked);
 }
 
-// How many names are marked.
-fn count(names: usize, marked: &[u8; 33]) -> usize
+// How many names are marked. The library's lemmas of chains read `a..b`, and not `a..=b`.
+fn count(names: usize, marked: &Marks) -> usize
     requires { names ≤ 32 }
     ensures { result ≡ marks (flag marked.now) names }
 {
-    let mut n = 0;
-    let mut x = 0;
-    while x < names {
-        x += 1;
-        if marked[x] == 1 {
-            n += 1;
-        }
-    }
-    n
+    (1..names + 1).filter(|x| marked[*x]).count()
 }
 
-// The lowest name that is not marked, 0 where there is none.
-fn lowest_unmarked(names: usize, marked: &[u8; 33]) -> usize
+// The lowest name that is not marked.
+fn lowest_unmarked(names: usize, marked: &Marks) -> Option<usize>
     requires { names ≤ 32 }
     ensures { LowestUnmarked names marked.now result }
 {
-    let mut found = 0;
-    let mut x = 0;
-    while x < names {
-        x += 1;
-        if marked[x] != 1 {
-            if found == 0 {
-                found = x;
-            }
-        }
-    }
-    found
+    (1..names + 1).find(|x| !marked[*x])
 }
 
-// The lowest barren name, or 0: rounds until one marks nothing, or all names are marked.
-pub fn barren(s: &[u8], l: Layout) -> usize
-    requires s_value { shapely s.now ≡ true }
-    requires laid { Laid s.now l }
+// The lowest barren name, if one is: rounds until one marks nothing, or all names are marked. No index is counted: a round goes on from
+// as many marks as the last one found, so this stays a `while`.
+pub fn barren(s: &Sheet) -> Option<usize>
+    requires { shapely s.now ≡ true }
     ensures { SaysBarren s.now result }
 {
-    let mut full = [0u8; ROWS];
-    let mut marked = [0u8; 33];
+    let names = s.names();
+    let mut full = [false; ROWS];
+    let mut marked = [false; 33];
     let mut known = 0;
-    while known < l.names {
-        round(s, l, &mut full, &mut marked);
-        let found = count(l.names, &marked);
+    while known < names {
+        round(s, &mut full, &mut marked);
+        let found = count(names, &marked);
         if found == known {
-            return lowest_unmarked(l.names, &marked);
+            return lowest_unmarked(names, &marked);
         }
         known = found;
     }
-    0
+    None
 }

@@ -1,6 +1,6 @@
 -- No two places of one head: what lets `ties` make no set. It is read off one pass over the rows, with a flag for each head that was met.
-use Rattle.std.specs.Prelude.{ℕ, ◌+◌, ◌≤◌, ◌<◌, ◌≡◌, Bool, true, false, List, length, get_or, set, replicate}
-use Rattle.std.proofs.Common.{sym, ◌∙◌, ap, true≢false, length-set, get_or-set_same, get_or-set_other}
+use Rattle.std.specs.Prelude.{ℕ, zero, suc, ◌+◌, ◌≤◌, ◌<◌, ◌≡◌, refl, Bool, true, false, List, length, get_or, set, replicate}
+use Rattle.std.proofs.Common.{sym, ◌∙◌, ap, length-set, get_or-set_same, get_or-set_other}
 use Rattle.std.proofs.lemmas.Bool.{false≢true}
 use Rattle.std.proofs.Math.Decide.{ℕ_discrete}
 use native.Mathlib.Omega.{arith}
@@ -8,9 +8,6 @@ use Rattle.std.proofs.lemmas.List.{length-replicate}
 use Rattle.meaning.specs.Tests.{in_table}
 use Rattle.meaning.specs.Sheet.{script_of}
 use Rattle.meaning.specs.Laws.Tests.{in_table_lem, table_low, table_high}
-use Rattle.meaning.specs.Laws.Words.{zeros}
-use Rattle.sheet.specs.declared.Layout.{Layout}
-use Rattle.sheet.specs.Laid.{Laid}
 use Rattle.type_heads.specs.Heads.{head_number}
 
 -- of the rows 1 to n no two places have one head
@@ -25,21 +22,26 @@ pub record SaysApart (s : List ℕ) (r : Bool) : Type 0 where
   pub no : r ≡ false → Apart s → ⊥
 
 -- after i rows without two of one head: the flags are those of their heads
-pub record Seen (s seen : List ℕ) (i : ℕ) : Type 0 where
+pub record Seen (s : List ℕ) (seen : List Bool) (i : ℕ) : Type 0 where
   pub size : length seen ≡ 1026
-  pub had : (h : ℕ) → get_or seen h 0 ≡ 1 → (a : ℕ) × (1 ≤ a) × (a ≤ i) × (head_number s a ≡ h)
-  pub met : (a : ℕ) → 1 ≤ a → a ≤ i → head_number s a < 1026 → get_or seen (head_number s a) 0 ≡ 1
+  pub had : (h : ℕ) → get_or seen h false ≡ true → (a : ℕ) × (1 ≤ a) × (a ≤ i) × (head_number s a ≡ h)
+  pub met : (a : ℕ) → 1 ≤ a → a ≤ i → head_number s a < 1026 → get_or seen (head_number s a) false ≡ true
   pub apart : ApartTo s i
 
-pub seen_none : (s : List ℕ) → Seen s (replicate 1026 0) 0
+pub seen_none : (s : List ℕ) → Seen s (replicate 1026 false) 0
 seen_none s = record {
-  size = length-replicate {A = ℕ} 1026 0;
-  had = λ h z. absurd (omega (arith, zeros 1026 h, z));
+  size = length-replicate {A = Bool} 1026 false;
+  had = λ h z. absurd (false≢true (sym (none 1026 h) ∙ z));
   met = λ a p q. absurd (omega arith);
   apart = record { one = λ a b p q. absurd (omega (arith, table_low 0 a p, table_high 0 a p)) };
 }
+  where
+    none : (n h : ℕ) → get_or (replicate n false) h false ≡ false
+    none zero h = refl
+    none (suc n) zero = refl
+    none (suc n) (suc h) = none n h
 
-module _ {s seen : List ℕ} {i : ℕ} (f : Seen s seen i) where
+module _ {s : List ℕ} {seen : List Bool} {i : ℕ} (f : Seen s seen i) where
   -- one row more is apart from those before, if none of them has its head
   more : ((a : ℕ) → 1 ≤ a → a ≤ i → head_number s a ≡ head_number s (i + 1) → head_number s (i + 1) < 1026 → ⊥) → ApartTo s (i + 1)
   more n = record {
@@ -65,9 +67,9 @@ module _ {s seen : List ℕ} {i : ℕ} (f : Seen s seen i) where
       apart = more (λ a p q z l. omega arith);
     }
 
-    pub seen_more : h < 1026 → (get_or seen h 0 ≡ 1 → ⊥) → Seen s (set seen h 1) (i + 1)
+    pub seen_more : h < 1026 → get_or seen h false ≡ false → Seen s (set seen h true) (i + 1)
     seen_more small new = record {
-      size = length-set seen h 1 ∙ f.size;
+      size = length-set seen h true ∙ f.size;
       had = λ k z. elim (ℕ_discrete k h) [
         | yes x ↦ (i + 1, omega arith, omega arith, sym (x ∙ e))
         | no x ↦ let y = f.had k (sym (there k x) ∙ z) in (y.0, y.1, omega (arith, y.2), y.3)
@@ -76,28 +78,23 @@ module _ {s seen : List ℕ} {i : ℕ} (f : Seen s seen i) where
         | yes x ↦ rw x here
         | no x ↦ there (head_number s a) x ∙ f.met a p (elim (ℕ_discrete a (i + 1)) [ yes y ↦ absurd (x (ap (head_number s) y ∙ sym e)) | no y ↦ omega arith ]) l
       ];
-      apart = more (λ a p q z l. new (ap (λ k. get_or seen k 0) (e ∙ sym z) ∙ f.met a p q (rw z l)));
+      apart = more (λ a p q z l. false≢true (sym new ∙ ap (λ k. get_or seen k false) (e ∙ sym z) ∙ f.met a p q (rw z l)));
     }
       where
-        here : get_or (set seen h 1) h 0 ≡ 1
-        here = get_or-set_same seen h 1 0 (omega (arith, f.size, small))
+        here : get_or (set seen h true) h false ≡ true
+        here = get_or-set_same seen h true false (omega (arith, f.size, small))
 
-        there : (k : ℕ) → (k ≡ h → ⊥) → get_or (set seen h 1) k 0 ≡ get_or seen k 0
-        there k w = get_or-set_other seen h k 1 0 w
+        there : (k : ℕ) → (k ≡ h → ⊥) → get_or (set seen h true) k false ≡ get_or seen k false
+        there k w = get_or-set_other seen h k true false w
 
     -- a head met before
-    pub seen_twice : {l : Layout} → Laid s l → i < l.types → h < 1026 → get_or seen h 0 ≡ 1 → SaysApart s false
-    unfolding script_of
-    seen_twice {l} L p small z = let y = f.had h z in record {
+    pub seen_twice : i < (script_of s).types → h < 1026 → get_or seen h false ≡ true → SaysApart s false
+    seen_twice p small z = let y = f.had h z in record {
       yes = λ x. absurd (false≢true x);
       no = λ x A. omega (
         arith,
         y.2,
         A.one y.0 (i + 1)
-            (in_table_lem _ y.0 y.1 (omega (arith, y.2, L.types))) (in_table_lem _ (i + 1) (omega arith) (omega (arith, L.types))) (y.3 ∙ e) (rw y.3 small),
+            (in_table_lem _ y.0 y.1 (omega (arith, y.2))) (in_table_lem _ (i + 1) (omega arith) (omega arith)) (y.3 ∙ e) (rw y.3 small),
       );
     }
-
-  pub seen_all : {l : Layout} → Laid s l → i ≡ l.types → SaysApart s true
-  unfolding script_of
-  seen_all L z = let w : i ≡ (script_of s).types = z ∙ L.types in record { yes = λ x. rw w at f.apart; no = λ x. absurd (true≢false x) }

@@ -5,10 +5,10 @@ use Rattle.std.proofs.Math.Decide.{ℕ_discrete}
 use Rattle.std.proofs.lemmas.List.{length-replicate}
 use Rattle.meaning.specs.Tests.{in_table}
 use Rattle.meaning.specs.Sheet.{script_of}
+use Rattle.meaning.specs.Shape.{shapely}
+use Rattle.meaning.specs.Laws.Shaped.{few_types}
 use Rattle.meaning.specs.Laws.Bools.{or_false, and_false, either, not_both}
 use Rattle.meaning.specs.Laws.Tests.{in_table_lem, table_low, table_high}
-use Rattle.sheet.specs.declared.Layout.{Layout}
-use Rattle.sheet.specs.Laid.{Laid}
 use Rattle.bits.specs.Sets.{Clear, in_set, Added}
 use Rattle.meaning.specs.Laws.Words.{zeros}
 use Rattle.type_heads.specs.Heads.{head_number}
@@ -144,7 +144,9 @@ module _ {s class same : List ℕ} {i : ℕ} (f : Classed s class same i) where
         ];
       })
 
-pub classes_all : {s : List ℕ} {l : Layout} → Laid s l → {class same : List ℕ} {i : ℕ} → i ≡ l.types → Classed s class same i → Classes s class same
-unfolding script_of
-classes_all {s} L z f = let w : _ ≡ (script_of s).types = z ∙ L.types in
-    record { leader = λ h p. rw w at (f.leader h p); members = λ h p b q. rw w at (f.members h p b q); none = f.none 0 (inl refl) }
+-- what one row more needs
+pub ruleset one_more = (few_types, led_low, classed_more, classed_skip)
+
+-- a leader is a row of types, so a set of a table has its number
+pub classes_low : {s class same : List ℕ} → Classes s class same → shapely s ≡ true → (h : ℕ) → h < 1026 → get_or class h 0 ≤ 512
+classes_low {s} C e h l = omega (arith, C.leader h l, few_types s e)

@@ -5,18 +5,75 @@ use Rattle.std.proofs.Math.Logic.{inr}
 use Rattle.std.proofs.Math.Decide.{ℕ_discrete}
 use Rattle.meaning.specs.Tests.{in_table}
 use Rattle.meaning.specs.Sheet.{Cells, script_of}
+use Rattle.meaning.specs.Kinds.{TypeRow, type_form}
 use Rattle.meaning.specs.Shape.{shapely}
 use Rattle.meaning.specs.Places.{acting, head_of, head_at, same_head}
 use Rattle.meaning.specs.Laws.Shaped.{kind_in, label_row}
 use Rattle.meaning.specs.Laws.Tests.{in_table_lem, table_high}
 use Rattle.meaning.specs.Laws.Apart.{PlaceKind, shaped_labelled}
+use Rattle.sheet.specs.declared.forms.Ty.{Ty}
+use Rattle.sheet.specs.Forms.{type_said}
 
 abbrev pub head_no : Cells → ℕ
 head_no c = get_or (1026 ∷ 1026 ∷ 1024 ∷ 1025 ∷ c.p ∷ []) c.kind 1026
 
+-- the same, of what the row says
+abbrev head_by : TypeRow → ℕ
+head_by TypeRow.none = 1026
+head_by TypeRow.empty = 1026
+head_by TypeRow.text = 1024
+head_by TypeRow.bool = 1025
+head_by (TypeRow.label l q) = l
+head_by (TypeRow.seq p q) = 1026
+head_by (TypeRow.choice p q) = 1026
+head_by (TypeRow.star p) = 1026
+head_by (TypeRow.name x) = 1026
+
+pub head_said : (t : Ty) (c : Cells) → type_said t ≡ type_form c → head_by (type_said t) ≡ head_no c
+head_said t c e = ap head_by e ∙ go c.kind
+  where
+    go : (k : ℕ) → head_by (type_form (record { kind = k; p = c.p; q = c.q; r = c.r })) ≡ head_no (record { kind = k; p = c.p; q = c.q; r = c.r })
+    go zero = refl
+    go (suc zero) = refl
+    go (suc (suc zero)) = refl
+    go (suc (suc (suc zero))) = refl
+    go (suc (suc (suc (suc zero)))) = refl
+    go (suc (suc (suc (suc (suc zero))))) = refl
+    go (suc (suc (suc (suc (suc (suc zero)))))) = refl
+    go (suc (suc (suc (suc (suc (suc (suc zero))))))) = refl
+    go (suc (suc (suc (suc (suc (suc (suc (suc zero)))))))) = refl
+    go (suc (suc (suc (suc (suc (suc (suc (suc (suc k))))))))) = refl
+
 -- the row that an atom's row stands for: a name's label row, and else itself
 abbrev pub stands_for : List ℕ → Cells → Cells
 stands_for s c = cond (eqb c.kind 8) ((script_of s).type_row ((script_of s).name_row c.p)) c
+
+-- the same, of what the row says
+abbrev stands_by : List ℕ → Cells → TypeRow → Cells
+stands_by s c TypeRow.none = c
+stands_by s c TypeRow.empty = c
+stands_by s c TypeRow.text = c
+stands_by s c TypeRow.bool = c
+stands_by s c (TypeRow.label l q) = c
+stands_by s c (TypeRow.seq p q) = c
+stands_by s c (TypeRow.choice p q) = c
+stands_by s c (TypeRow.star p) = c
+stands_by s c (TypeRow.name x) = (script_of s).type_row ((script_of s).name_row x)
+
+pub stands_said : (s : List ℕ) (t : Ty) (c : Cells) → type_said t ≡ type_form c → stands_by s c (type_said t) ≡ stands_for s c
+stands_said s t c e = ap (stands_by s c) e ∙ go c.kind
+  where
+    go : (k : ℕ) → stands_by s c (type_form (record { kind = k; p = c.p; q = c.q; r = c.r })) ≡ cond (eqb k 8) ((script_of s).type_row ((script_of s).name_row c.p)) c
+    go zero = refl
+    go (suc zero) = refl
+    go (suc (suc zero)) = refl
+    go (suc (suc (suc zero))) = refl
+    go (suc (suc (suc (suc zero)))) = refl
+    go (suc (suc (suc (suc (suc zero))))) = refl
+    go (suc (suc (suc (suc (suc (suc zero)))))) = refl
+    go (suc (suc (suc (suc (suc (suc (suc zero))))))) = refl
+    go (suc (suc (suc (suc (suc (suc (suc (suc zero)))))))) = refl
+    go (suc (suc (suc (suc (suc (suc (suc (suc (suc k))))))))) = rw (ne_eqb (suc (suc (suc (suc (suc (suc (suc (suc (suc k))))))))) 8 (λ z. omega arith))
 
 pub named_for : (s : List ℕ) (c : Cells) → c.kind ≡ 8 → (script_of s).type_row ((script_of s).name_row c.p) ≡ stands_for s c
 named_for s c k = rw k
@@ -34,17 +91,6 @@ head_number s a = head_no (acting_at s a)
 pub head_number_lem : (s : List ℕ) (a : ℕ) (c : Cells) → c ≡ acting_at s a → head_no c ≡ head_number s a
 unfolding head_number
 head_number_lem s a c r = ap head_no r
-
-pub head_none : (c : Cells) → (c.kind ≡ 2 → ⊥) → (c.kind ≡ 3 → ⊥) → (c.kind ≡ 4 → ⊥) → 1026 ≡ head_no c
-head_none c x y z = sym (go c.kind x y z)
-  where
-    go : (k : ℕ) → (k ≡ 2 → ⊥) → (k ≡ 3 → ⊥) → (k ≡ 4 → ⊥) → get_or (1026 ∷ 1026 ∷ 1024 ∷ 1025 ∷ c.p ∷ []) k 1026 ≡ 1026
-    go zero x y z = refl
-    go (suc zero) x y z = refl
-    go (suc (suc zero)) x y z = absurd (x refl)
-    go (suc (suc (suc zero))) x y z = absurd (y refl)
-    go (suc (suc (suc (suc zero)))) x y z = absurd (z refl)
-    go (suc (suc (suc (suc (suc k))))) x y z = refl
 
 -- what a place acts as, n the number of type rows: text, bool, or a label with a content
 pub data Acts (n : ℕ) (c : Cells) : Type 0 where

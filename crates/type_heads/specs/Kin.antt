@@ -5,6 +5,7 @@ use Rattle.std.proofs.Math.Decide.{dec_le, ℕ_discrete}
 use Rattle.std.proofs.lemmas.List.{length-replicate}
 use Rattle.meaning.specs.Tests.{in_table}
 use Rattle.meaning.specs.Sheet.{Cells, script_of}
+use Rattle.meaning.specs.Kinds.{TypeRow, type_form}
 use Rattle.meaning.specs.Types.{Head}
 use Rattle.meaning.specs.Places.{head_of}
 use Rattle.meaning.specs.Shape.{shapely}
@@ -12,6 +13,8 @@ use Rattle.meaning.specs.Laws.Bools.{and_left, and_right, and_both, not_both, ei
 use Rattle.bits.specs.Sets.{in_set}
 use Rattle.meaning.specs.Laws.Words.{zeros}
 use Rattle.meaning.specs.Laws.Shaped.{few_types}
+use Rattle.sheet.specs.declared.forms.Ty.{Ty}
+use Rattle.sheet.specs.Forms.{type_said}
 use Rattle.type_heads.specs.Heads.{head_no, stands_for, head_number}
 use Rattle.type_heads.specs.Classes.{Classes}
 
@@ -153,27 +156,30 @@ acts_head {c} {d} (acts_label e p) (acts_text f) h = (let z : ◌≡◌ {A = ℕ
 acts_head {c} {d} (acts_label e p) (acts_bool f) h = (let z : ◌≡◌ {A = ℕ} c.p 1025 = rw (e, f) at h in absurd (omega arith))
 acts_head {c} {d} (acts_label e p) (acts_label f q) h = (let z : c.p ≡ d.p = rw (e, f) at h in rw (e, f, z))
 
--- by the number of the head
-pub kin_known : (s class : List ℕ) (c : Cells) (h : ℕ) → h ≡ own_no (stands_for s c) → h < 1026 → get_or class h 0 ≡ kin_no s class c
-kin_known s class c h e l = rw (← e, lt-ltb h 1026 l)
+-- by what the row says
+abbrev own_by : ℕ → TypeRow → ℕ
+own_by h TypeRow.none = h
+own_by h TypeRow.empty = h
+own_by h TypeRow.text = h
+own_by h TypeRow.bool = h
+own_by h (TypeRow.label l q) = cond (ltb l 1024) h 1026
+own_by h (TypeRow.seq p q) = h
+own_by h (TypeRow.choice p q) = h
+own_by h (TypeRow.star p) = h
+own_by h (TypeRow.name x) = h
 
-pub kin_unknown : (s class : List ℕ) (c : Cells) (h : ℕ) → h ≡ own_no (stands_for s c) → 1026 ≤ h → 0 ≡ kin_no s class c
-kin_unknown s class c h e l = elim (either (ltb h 1026)) [ inl z ↦ absurd (omega (arith, ltb-true h 1026 z)) | inr z ↦ rw (← e, z) ]
-
--- a label that no sheet has, and any other row
-pub number_past : (c : Cells) → c.kind ≡ 4 → 1023 < c.p → 1026 ≡ own_no c
-number_past c k l = elim (either (ltb c.p 1024)) [ inl z ↦ absurd (omega (arith, ltb-true c.p 1024 z)) | inr z ↦ rw (k, z) ]
-
-pub number_label : (c : Cells) → c.kind ≡ 4 → c.p ≤ 1023 → c.p ≡ own_no c
-number_label c k l = rw (k, lt-ltb c.p 1024 (omega arith))
-
-pub number_other : (c : Cells) (h : ℕ) → (c.kind ≡ 4 → ⊥) → h ≡ head_no c → h ≡ own_no c
-number_other c h n e = e ∙ go c.kind n
+pub own_said : (t : Ty) (c : Cells) → type_said t ≡ type_form c → own_by (head_no c) (type_said t) ≡ own_no c
+own_said t c e = ap (own_by (head_no c)) e ∙ go c.kind
   where
-    go : (k : ℕ) → (k ≡ 4 → ⊥) → get_or (1026 ∷ 1026 ∷ 1024 ∷ 1025 ∷ c.p ∷ []) k 1026 ≡ get_or (1026 ∷ 1026 ∷ 1024 ∷ 1025 ∷ cond (ltb c.p 1024) c.p 1026 ∷ []) k 1026
-    go zero n = refl
-    go (suc zero) n = refl
-    go (suc (suc zero)) n = refl
-    go (suc (suc (suc zero))) n = refl
-    go (suc (suc (suc (suc zero)))) n = absurd (n refl)
-    go (suc (suc (suc (suc (suc k))))) n = refl
+    go : (k : ℕ) → own_by (head_no (record { kind = k; p = c.p; q = c.q; r = c.r })) (type_form (record { kind = k; p = c.p; q = c.q; r = c.r }))
+        ≡ own_no (record { kind = k; p = c.p; q = c.q; r = c.r })
+    go zero = refl
+    go (suc zero) = refl
+    go (suc (suc zero)) = refl
+    go (suc (suc (suc zero))) = refl
+    go (suc (suc (suc (suc zero)))) = refl
+    go (suc (suc (suc (suc (suc zero))))) = refl
+    go (suc (suc (suc (suc (suc (suc zero)))))) = refl
+    go (suc (suc (suc (suc (suc (suc (suc zero))))))) = refl
+    go (suc (suc (suc (suc (suc (suc (suc (suc zero)))))))) = refl
+    go (suc (suc (suc (suc (suc (suc (suc (suc (suc k))))))))) = refl

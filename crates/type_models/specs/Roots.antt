@@ -3,11 +3,10 @@ use Rattle.std.specs.Prelude.{ℕ, zero, suc, ◌+◌, ◌≤◌, ◌<◌, ◌�
 use Rattle.std.proofs.Common.{sym, ◌∙◌, ap, add-one, arith, length-set, eq-eqb, ne_eqb}
 use Rattle.std.proofs.Math.Decide.{ℕ_discrete}
 use Rattle.meaning.specs.Tests.{some}
-use Rattle.meaning.specs.Sheet.{Cells, Procedure, row3, script_of}
+use Rattle.meaning.specs.Sheet.{Cells, Procedure, script_of}
 use Rattle.meaning.specs.Places.{is_declared, is_content}
 use Rattle.meaning.specs.Laws.Bools.{or_false, or_or}
-use Rattle.sheet.specs.declared.Layout.{Layout}
-use Rattle.sheet.specs.Laid.{Laid}
+use Rattle.sheet.specs.Table.{Table, rows_in, types_in}
 use Rattle.type_barren.specs.Flags.{flag, flag_set, flag_kept}
 
 -- row r is a declared type or a content
@@ -15,12 +14,12 @@ abbrev pub is_root : List ℕ → ℕ → Bool
 is_root s r = is_declared (script_of s) r || is_content (script_of s) r
 
 -- the flags say which rows are declared types or contents
-pub record Rooted (s root : List ℕ) : Type 0 where
+pub record Rooted (s : List ℕ) (root : List Bool) : Type 0 where
   pub size : length root ≡ 513
   pub at : (r : ℕ) → r < 513 → flag root r ≡ is_root s r
 
 -- the flags of the rows that pass the test are set besides
-pub record Marked (old new : List ℕ) (test : ℕ → Bool) : Type 0 where
+pub record Marked (old new : List Bool) (test : ℕ → Bool) : Type 0 where
   pub size : length new ≡ length old
   pub at : (y : ℕ) → y < 513 → flag new y ≡ flag old y || test y
 
@@ -28,39 +27,36 @@ or_all : (a : Bool) → a || true ≡ true
 or_all true = refl
 or_all false = refl
 
-pub marked_none : (old : List ℕ) → Marked old old (λ y. false)
+pub marked_none : (old : List Bool) → Marked old old (λ y. false)
 marked_none old = record { size = refl; at = λ y l. sym (or_false (flag old y)) }
 
-pub marked_row : (old : List ℕ) (r : ℕ) → length old ≡ 513 → r ≤ 512 → Marked old (set old r 1) (λ y. eqb r y)
+pub marked_row : (old : List Bool) (r : ℕ) → length old ≡ 513 → r < 513 → Marked old (set old r true) (λ y. eqb r y)
 marked_row old r l h = record {
-  size = length-set old r 1;
+  size = length-set old r true;
   at = λ y k. elim (ℕ_discrete y r) [
-    | yes z ↦ rw (z, eq-eqb r r refl, or_all (flag old r)) (flag_set old r 1 (omega arith))
-    | no z ↦ rw (ne_eqb r y (λ w. z (sym w)), or_false (flag old y)) (flag_kept old r 1 y z)
+    | yes z ↦ rw (z, eq-eqb r r refl, or_all (flag old r)) (flag_set old r true (omega arith))
+    | no z ↦ rw (ne_eqb r y (λ w. z (sym w)), or_false (flag old y)) (flag_kept old r true y z)
   ];
 }
 
-pub marked_past : (old : List ℕ) (r : ℕ) → 512 < r → Marked old old (λ y. eqb r y)
+pub marked_past : (old : List Bool) (r : ℕ) → 513 ≤ r → Marked old old (λ y. eqb r y)
 marked_past old r h = record { size = refl; at = λ y k. rw (ne_eqb r y (λ z. omega arith), or_false (flag old y)) }
 
-pub marked_then : {old mid new : List ℕ} {f g : ℕ → Bool} → Marked old mid f → Marked mid new g → Marked old new (λ y. f y || g y)
+pub marked_then : {old mid new : List Bool} {f g : ℕ → Bool} → Marked old mid f → Marked mid new g → Marked old new (λ y. f y || g y)
 marked_then {old} {f = f} {g = g} a b = record { size = b.size ∙ a.size; at = λ y l. b.at y l ∙ rw (a.at y l) (or_or (flag old y) (f y) (g y)) }
 
 -- the same test in other words
-pub marked_as : {old new : List ℕ} {f : ℕ → Bool} (g : ℕ → Bool) → ((y : ℕ) → f y ≡ g y) → Marked old new f → Marked old new g
+pub marked_as : {old new : List Bool} {f : ℕ → Bool} (g : ℕ → Bool) → ((y : ℕ) → f y ≡ g y) → Marked old new f → Marked old new g
 marked_as {old} g h m = record { size = m.size; at = λ y l. m.at y l ∙ ap (λ b. flag old y || b) (h y) }
 
 -- one row of a table more
-pub some_none : (old : List ℕ) (test : ℕ → ℕ → Bool) → Marked old old (λ y. some (test y) 0)
+pub some_none : (old : List Bool) (test : ℕ → ℕ → Bool) → Marked old old (λ y. some (test y) 0)
 unfolding some
 some_none old test = marked_none old
 
-pub some_more : {old mid new : List ℕ} (test : ℕ → ℕ → Bool) (x : ℕ) → Marked old mid (λ y. some (test y) x) → Marked mid new (λ y. test y (x + 1)) → Marked old new (λ y. some (test y) (x + 1))
+pub some_more : {old mid new : List Bool} (test : ℕ → ℕ → Bool) (x : ℕ) → Marked old mid (λ y. some (test y) x) → Marked mid new (λ y. test y (x + 1)) → Marked old new (λ y. some (test y) (x + 1))
 unfolding some
 some_more test x a b = rw (add-one x) (rw (add-one x) at (marked_then a b))
-
-pub some_all : {old new : List ℕ} (test : ℕ → ℕ → Bool) {x n : ℕ} → x ≡ n → Marked old new (λ y. some (test y) x) → Marked old new (λ y. some (test y) n)
-some_all test z m = rw z at m
 
 -- ---- what each table adds
 
@@ -68,20 +64,14 @@ some_all test z m = rw z at m
 abbrev pub held_root : (ℕ → Cells) → ℕ → ℕ → Bool
 held_root row y i = eqb (row i).kind 4 && eqb (row i).q y
 
-pub label_held : (row : ℕ → Cells) (i : ℕ) (c : Cells) → c ≡ row i → c.kind ≡ 4 → {old new : List ℕ} → Marked old new (λ y. eqb c.q y) → Marked old new (λ y. held_root row y i)
-label_held row i c r k m = marked_as (λ y. held_root row y i) (λ y. let k' : (row i).kind ≡ 4 = rw r at k in rw (r, k')) m
-
 -- blank rows have no content
-pub none_held : (row : ℕ → Cells) (old : List ℕ) (low : ℕ) → ((i : ℕ) → 1 ≤ i → i ≤ low → (row i).kind ≡ 0) → Marked old old (λ y. some (held_root row y) low)
+pub none_held : (row : ℕ → Cells) (old : List Bool) (low : ℕ) → ((i : ℕ) → 1 ≤ i → i ≤ low → (row i).kind ≡ 0) → Marked old old (λ y. some (held_root row y) low)
 unfolding some
 none_held row old low h = marked_as (λ y. some (held_root row y) low) (λ y. sym (go y low h)) (marked_none old)
   where
     go : (y low : ℕ) → ((i : ℕ) → 1 ≤ i → i ≤ low → (row i).kind ≡ 0) → some (held_root row y) low ≡ false
     go y zero h = refl
     go y (suc k) h = rw (go y k (λ i p q. h i p (omega arith)), h (suc k) (omega arith) (omega arith))
-
-pub other_held : (row : ℕ → Cells) (i : ℕ) (c : Cells) → c ≡ row i → (c.kind ≡ 4 → ⊥) → (old : List ℕ) → Marked old old (λ y. held_root row y i)
-other_held row i c r k old = marked_as (λ y. held_root row y i) (λ y. rw (ne_eqb (row i).kind 4 (λ z. k (rw r z)))) (marked_none old)
 
 module _ (s : List ℕ) where
   abbrev pub named_root : ℕ → ℕ → Bool
@@ -91,12 +81,12 @@ module _ (s : List ℕ) where
   signed_root y c = eqb ((script_of s).procedure_row c).first y || eqb ((script_of s).procedure_row c).second y || eqb ((script_of s).procedure_row c).input y
       || eqb ((script_of s).procedure_row c).output y
 
-  pub signed : (c : ℕ) (row : Procedure) → row ≡ (script_of s).procedure_row c → {old new : List ℕ}
+  pub signed : (c : ℕ) (row : Procedure) → row ≡ (script_of s).procedure_row c → {old new : List Bool}
       → Marked old new (λ y. eqb row.first y || eqb row.second y || eqb row.input y || eqb row.output y) → Marked old new (λ y. signed_root y c)
   signed c row r m = marked_as (λ y. signed_root y c) (λ y. rw r) m
 
-  pub rooted : {l : Layout} → Laid s l → {old new : List ℕ} → length old ≡ 513 → ((y : ℕ) → flag old y ≡ false)
-      → Marked old new (λ y. eqb l.a y || eqb l.b y || some (named_root y) l.names || some (signed_root y) l.procedures || some (held_root (row3 s l.types_at l.types) y)
-      l.types) → Rooted s new
+  pub rooted : {a b : ℕ} {t : Table} → a ≡ (script_of s).a → b ≡ (script_of s).b → t ≡ types_in s → {old new : List Bool} → length old ≡ 513 → ((y : ℕ) → flag old y ≡ false)
+      → Marked old new (λ y. eqb a y || eqb b y || some (named_root y) (script_of s).names || some (signed_root y) (script_of s).procedures || some (held_root (rows_in t) y) t.rows)
+      → Rooted s new
   unfolding script_of
-  rooted L {old} n z m = record { size = m.size ∙ n; at = λ y l. m.at y l ∙ rw (z y, L.a, L.b, L.names, L.procedures, L.types, L.types_at) }
+  rooted p q w n z m = record { size = m.size ∙ n; at = λ y l. m.at y l ∙ rw (z y, p, q, w) }

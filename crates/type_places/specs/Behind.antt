@@ -1,29 +1,31 @@
 -- Row by row from above: each row hands its set down to its sides. A row has one user, so a side's set has no member before and is not changed after; what is handed down makes the sets wired for
 -- the model at each root.
 use Prim.Native.Nat.{ℕ, zero, suc, ◌-◌, ◌≤◌, ◌<◌}
-use Rattle.std.specs.Prelude.{◌≡◌, true, ◌&&◌, ◌||◌, List, ◌⊎◌, eqb, ltb}
-use Rattle.std.proofs.Math.Path.{refl, sym}
+use Rattle.std.specs.Prelude.{◌≡◌, Bool, true, ◌&&◌, ◌||◌, List, ◌⊎◌, eqb, ltb, length}
+use Rattle.std.proofs.Math.Path.{refl, sym, ap}
 use Rattle.std.proofs.Common.{◌∙◌, inl, inr, arith, lt-ltb, ltb-true, ltb-false, ne_eqb}
 use Rattle.std.proofs.Math.Bool.{false}
 use Rattle.std.proofs.Math.Decide.{ℕ_discrete, dec_le}
 use Rattle.meaning.specs.Tests.{in_table}
 use Rattle.meaning.specs.Sheet.{Cells}
-use Rattle.meaning.specs.Kinds.{TypeRow}
+use Rattle.meaning.specs.Kinds.{TypeRow, type_form}
 use Rattle.meaning.specs.Places.{Set, model_form, nullable, first}
 use Rattle.meaning.specs.Laws.Bools.{or_false, or_or, and_false, either, not_both}
 use Rattle.meaning.specs.Laws.Tests.{in_table_lem, table_high}
 use Rattle.meaning.specs.Laws.Wired.{Wired, ends, starting, turning}
-use Rattle.meaning.specs.Laws.Apart.{Side, Distinct, View, v_none, v_empty, v_text, v_bool, v_label, v_seq, v_choice, v_star, v_name, view}
+use Rattle.meaning.specs.Laws.Apart.{Side, Distinct}
 use Rattle.bits.specs.Sets.{in_set, Added, United}
+use Rattle.sheet.specs.declared.forms.Ty.{Ty}
+use Rattle.sheet.specs.Forms.{type_said}
 use Rattle.type_barren.specs.Flags.{flag}
 use Rattle.meaning.specs.Laws.Shaped.{Part}
 use Rattle.type_places.specs.Tables.{row_form, row_model, Rows, set_of, Tables, Down, Passed, Ready, Fell, Ended, Falling, Free, Wires}
 use Rattle.bits.specs.Sets.{Clear}
-use Rattle.type_places.specs.Firsts.{model_row, side_part, seq_row, choice_row, star_row, first_below}
+use Rattle.type_places.specs.Firsts.{model_row, side_part, seq_parts, choice_parts, star_part, first_below}
 
 -- ---- what is handed to the first side of a sequence
 
-module _ {old : List ℕ} {p i q : ℕ} {null begin : List ℕ} (d : p ≡ i → ⊥) where
+module _ {old : List ℕ} {p i q : ℕ} {null : List Bool} {begin : List ℕ} (d : p ≡ i → ⊥) where
   pub passed_both : flag null q ≡ true → {mid new : List ℕ} → United old mid p begin q → United mid new p mid i → Passed old new p i null begin q
   passed_both z u x = record {
     size = x.size ∙ u.size;
@@ -36,101 +38,95 @@ module _ {old : List ℕ} {p i q : ℕ} {null begin : List ℕ} (d : p ≡ i →
 
 -- ---- End behind a root
 
-pub ended_root : {old new root : List ℕ} {i : ℕ} → flag root i ≡ true → Added old new i 0 → Ended old new root i
+pub ended_root : {old new : List ℕ} {root : List Bool} {i : ℕ} → flag root i ≡ true → Added old new i 0 → Ended old new root i
 ended_root z a = record { size = a.size; into = λ b l. a.into b l ∙ rw z; others = a.others }
 
-pub ended_other : {old root : List ℕ} {i : ℕ} → flag root i ≡ false → Ended old old root i
+pub ended_other : {old : List ℕ} {root : List Bool} {i : ℕ} → flag root i ≡ false → Ended old old root i
 ended_other {old} {i = i} z = record { size = refl; into = λ b l. rw (z, or_false (in_set old i b)); others = λ k b w l. refl }
 
 module _ {row : ℕ → Cells} {n : ℕ} (R : Rows row n) where
   inner : {i w : ℕ} → in_table n i ≡ true → Part i w → in_table n w ≡ true
   inner {i} {w} h p = in_table_lem n w p.low (omega (arith, p.lower, table_high n i h))
 
-  module _ (i : ℕ) (h : in_table n i ≡ true) (c : Cells) (r : c ≡ row i) {null begin : List ℕ} (T : Tables row n null begin) {old : List ℕ} (y : Ready row old i) where
+  module _ (i : ℕ) (h : in_table n i ≡ true) (c : Cells) (r : c ≡ row i) {null : List Bool} {begin : List ℕ} (T : Tables row n null begin) {old : List ℕ} (y : Ready row old i) where
     starts : (w : ℕ) → Part i w → (b : ℕ) → b < 576 → in_set begin w b ≡ first (row_model row w) b
     starts w p b l = rw (lt-ltb b 576 l) at (T.begin w (inner h p) b)
 
-    pub seq_fell : c.kind ≡ 5 → {mid new : List ℕ} → Passed old mid c.p i null begin c.q → United mid new c.q mid i → Fell row old new i
-    unfolding Side Distinct Down
-    seq_fell k {mid} {new} u x = go (rw r at k) (rw r at u) (rw r at x)
-      where
-        go : (row i).kind ≡ 5 → Passed old mid (row i).p i null begin (row i).q → United mid new (row i).q mid i → Fell row old new i
-        go k u x =
-            let pt = seq_row R i k in
-            let p = (row i).p in
-            let q = (row i).q in
-            let pi : p ≡ i → ⊥ = λ z. omega (arith, pt.0.lower) in
-            let qi : q ≡ i → ⊥ = λ z. omega (arith, pt.1.lower) in
-            let dis : 0 < p → p ≡ q → ⊥ = rw k at (R.once.sides i) in
-            let pq : p ≡ q → ⊥ = dis pt.0.low in
-            let cp : (b : ℕ) → b < 576 → in_set old p b ≡ false = y.none p (rw k (inl refl)) in
-            let cq : (b : ℕ) → b < 576 → in_set old q b ≡ false = y.none q (rw k (inr refl)) in
-            let kept : (b : ℕ) → b < 576 → in_set new i b ≡ in_set old i b = λ b l. x.others i b (λ z. qi (sym z)) l ∙ u.others i b (λ z. pi (sym z)) l in
-            record {
-              size = x.size ∙ u.size;
-              down = rw k (
-                (λ b l. x.others p b pq l ∙ u.into b l ∙ rw (cp b l, starts q pt.1 b l, T.empty q (inner h pt.1), kept b l)),
-                (λ b l. x.into b l ∙ rw (u.others q b (λ z. pq (sym z)) l, cq b l, u.others i b (λ z. pi (sym z)) l, kept b l)),
-              );
-              others = λ j n b l. let m : (p ≡ j) ⊎ (q ≡ j) → ⊥ = rw k at n in x.others j b (λ z. m (inr (sym z))) l ∙ u.others j b (λ z. m (inl (sym z))) l;
-            }
+    said : {t : TypeRow} → t ≡ type_form c → t ≡ row_form row i
+    said z = z ∙ ap type_form r
 
-    pub choice_fell : c.kind ≡ 6 → {mid new : List ℕ} → United old mid c.p old i → United mid new c.q mid i → Fell row old new i
-    unfolding Side Distinct Down
-    choice_fell k {mid} {new} u x = go (rw r at k) (rw r at u) (rw r at x)
-      where
-        go : (row i).kind ≡ 6 → United old mid (row i).p old i → United mid new (row i).q mid i → Fell row old new i
-        go k u x =
-            let pt = choice_row R i k in
-            let p = (row i).p in
-            let q = (row i).q in
-            let pi : p ≡ i → ⊥ = λ z. omega (arith, pt.0.lower) in
-            let qi : q ≡ i → ⊥ = λ z. omega (arith, pt.1.lower) in
-            let dis : 0 < p → p ≡ q → ⊥ = rw k at (R.once.sides i) in
-            let pq : p ≡ q → ⊥ = dis pt.0.low in
-            let cp : (b : ℕ) → b < 576 → in_set old p b ≡ false = y.none p (rw k (inl refl)) in
-            let cq : (b : ℕ) → b < 576 → in_set old q b ≡ false = y.none q (rw k (inr refl)) in
-            let kept : (b : ℕ) → b < 576 → in_set new i b ≡ in_set old i b = λ b l. x.others i b (λ z. qi (sym z)) l ∙ u.others i b (λ z. pi (sym z)) l in
-            record {
-              size = x.size ∙ u.size;
-              down = rw k (
-                (λ b l. x.others p b pq l ∙ u.into b l ∙ rw (cp b l, kept b l)),
-                (λ b l. x.into b l ∙ rw (u.others q b (λ z. pq (sym z)) l, cq b l, u.others i b (λ z. pi (sym z)) l, kept b l)),
-              );
-              others = λ j n b l. let m : (p ≡ j) ⊎ (q ≡ j) → ⊥ = rw k at n in x.others j b (λ z. m (inr (sym z))) l ∙ u.others j b (λ z. m (inl (sym z))) l;
-            }
+    none_said : {t : TypeRow} → t ≡ row_form row i → (w : ℕ) → Side t w → (b : ℕ) → b < 576 → in_set old w b ≡ false
+    none_said z w x = y.none w (rw z at x)
 
-    pub star_fell : c.kind ≡ 7 → {mid new : List ℕ} → United old mid c.p begin c.p → United mid new c.p mid i → Fell row old new i
+    distinct_said : {t : TypeRow} → t ≡ row_form row i → Distinct t
+    distinct_said z = rw (← z) at (R.once.sides i)
+
+    fell : {t : TypeRow} → t ≡ row_form row i → {new : List ℕ} → length new ≡ length old → Down row new t i
+        → ((j : ℕ) → (Side t j → ⊥) → (b : ℕ) → b < 576 → in_set new j b ≡ in_set old j b) → Fell row old new i
+    fell z s d o = record { size = s; down = rw z at d; others = λ j n. o j (λ w. n (rw z at w)) }
+
+    pub seq_fell : {p q : ℕ} → TypeRow.seq p q ≡ type_form c → {mid new : List ℕ} → Passed old mid p i null begin q → United mid new q mid i → Fell row old new i
+    unfolding Side Distinct Down
+    seq_fell {p} {q} k {mid} {new} u x =
+        let z = said k in
+        let pt = seq_parts R z in
+        let pi : p ≡ i → ⊥ = λ z. omega (arith, pt.0.lower) in
+        let qi : q ≡ i → ⊥ = λ z. omega (arith, pt.1.lower) in
+        let dis : 0 < p → p ≡ q → ⊥ = distinct_said z in
+        let pq : p ≡ q → ⊥ = dis pt.0.low in
+        let cp : (b : ℕ) → b < 576 → in_set old p b ≡ false = none_said z p (inl refl) in
+        let cq : (b : ℕ) → b < 576 → in_set old q b ≡ false = none_said z q (inr refl) in
+        let kept : (b : ℕ) → b < 576 → in_set new i b ≡ in_set old i b = λ b l. x.others i b (λ z. qi (sym z)) l ∙ u.others i b (λ z. pi (sym z)) l in
+        fell z (x.size ∙ u.size) (
+          (λ b l. x.others p b pq l ∙ u.into b l ∙ rw (cp b l, starts q pt.1 b l, T.empty q (inner h pt.1), kept b l)),
+          (λ b l. x.into b l ∙ rw (u.others q b (λ z. pq (sym z)) l, cq b l, u.others i b (λ z. pi (sym z)) l, kept b l)),
+        )
+        (λ j m b l. x.others j b (λ z. m (inr (sym z))) l ∙ u.others j b (λ z. m (inl (sym z))) l)
+
+    pub choice_fell : {p q : ℕ} → TypeRow.choice p q ≡ type_form c → {mid new : List ℕ} → United old mid p old i → United mid new q mid i → Fell row old new i
+    unfolding Side Distinct Down
+    choice_fell {p} {q} k {mid} {new} u x =
+        let z = said k in
+        let pt = choice_parts R z in
+        let pi : p ≡ i → ⊥ = λ z. omega (arith, pt.0.lower) in
+        let qi : q ≡ i → ⊥ = λ z. omega (arith, pt.1.lower) in
+        let dis : 0 < p → p ≡ q → ⊥ = distinct_said z in
+        let pq : p ≡ q → ⊥ = dis pt.0.low in
+        let cp : (b : ℕ) → b < 576 → in_set old p b ≡ false = none_said z p (inl refl) in
+        let cq : (b : ℕ) → b < 576 → in_set old q b ≡ false = none_said z q (inr refl) in
+        let kept : (b : ℕ) → b < 576 → in_set new i b ≡ in_set old i b = λ b l. x.others i b (λ z. qi (sym z)) l ∙ u.others i b (λ z. pi (sym z)) l in
+        fell z (x.size ∙ u.size) (
+          (λ b l. x.others p b pq l ∙ u.into b l ∙ rw (cp b l, kept b l)),
+          (λ b l. x.into b l ∙ rw (u.others q b (λ z. pq (sym z)) l, cq b l, u.others i b (λ z. pi (sym z)) l, kept b l)),
+        )
+        (λ j m b l. x.others j b (λ z. m (inr (sym z))) l ∙ u.others j b (λ z. m (inl (sym z))) l)
+
+    pub star_fell : {p : ℕ} → TypeRow.star p ≡ type_form c → {mid new : List ℕ} → United old mid p begin p → United mid new p mid i → Fell row old new i
     unfolding Side Down
-    star_fell k {mid} {new} u x = go (rw r at k) (rw r at u) (rw r at x)
-      where
-        go : (row i).kind ≡ 7 → United old mid (row i).p begin (row i).p → United mid new (row i).p mid i → Fell row old new i
-        go k u x =
-            let pt = star_row R i k in
-            let p = (row i).p in
-            let pi : p ≡ i → ⊥ = λ z. omega (arith, pt.lower) in
-            let cp : (b : ℕ) → b < 576 → in_set old p b ≡ false = y.none p (rw k refl) in
-            let kept : (b : ℕ) → b < 576 → in_set new i b ≡ in_set old i b = λ b l. x.others i b (λ z. pi (sym z)) l ∙ u.others i b (λ z. pi (sym z)) l in
-            record {
-              size = x.size ∙ u.size;
-              down = rw k (λ b l. x.into b l ∙ rw (u.into b l, cp b l, starts p pt b l, u.others i b (λ z. pi (sym z)) l, kept b l));
-              others = λ j n b l. let m : p ≡ j → ⊥ = rw k at n in x.others j b (λ z. m (sym z)) l ∙ u.others j b (λ z. m (sym z)) l;
-            }
+    star_fell {p} k {mid} {new} u x =
+        let z = said k in
+        let pt = star_part R z in
+        let pi : p ≡ i → ⊥ = λ z. omega (arith, pt.lower) in
+        let cp : (b : ℕ) → b < 576 → in_set old p b ≡ false = none_said z p refl in
+        let kept : (b : ℕ) → b < 576 → in_set new i b ≡ in_set old i b = λ b l. x.others i b (λ z. pi (sym z)) l ∙ u.others i b (λ z. pi (sym z)) l in
+        fell z (x.size ∙ u.size) (λ b l. x.into b l ∙ rw (u.into b l, cp b l, starts p pt b l, u.others i b (λ z. pi (sym z)) l, kept b l))
+        (λ j m b l. x.others j b (λ z. m (sym z)) l ∙ u.others j b (λ z. m (sym z)) l)
 
-    pub other_fell : (c.kind ≡ 5 → ⊥) → (c.kind ≡ 6 → ⊥) → (c.kind ≡ 7 → ⊥) → Fell row old old i
+    -- what is no sequence, choice or star hands nothing down
+    pub other_fell : (t : Ty) → type_said t ≡ type_form c → ((p q : ℕ) → t ≡ Ty.Sequence p q → ⊥) → ((p q : ℕ) → t ≡ Ty.Choice p q → ⊥) → ((p : ℕ) → t ≡ Ty.Star p → ⊥) → Fell row old old i
     unfolding Down
-    other_fell x5 x6 x7 = record { size = refl; down = rw (← r) (go (view c)); others = λ j n b l. refl }
+    other_fell t z x5 x6 x7 = fell (said z) refl (go t x5 x6 x7) (λ j n b l. refl)
       where
-        go : {t : TypeRow} → View c t → Down row old t i
-        go v_none = tt
-        go v_empty = tt
-        go (v_text k) = tt
-        go (v_bool k) = tt
-        go (v_label k) = tt
-        go (v_seq k) = absurd (x5 k)
-        go (v_choice k) = absurd (x6 k)
-        go (v_star k) = absurd (x7 k)
-        go (v_name k) = tt
+        go : (t : Ty) → ((p q : ℕ) → t ≡ Ty.Sequence p q → ⊥) → ((p q : ℕ) → t ≡ Ty.Choice p q → ⊥) → ((p : ℕ) → t ≡ Ty.Star p → ⊥) → Down row old (type_said t) i
+        go Ty.Nothing a b d = tt
+        go Ty.Empty a b d = tt
+        go Ty.Text a b d = tt
+        go Ty.Bool a b d = tt
+        go (Ty.Label l q) a b d = tt
+        go (Ty.Sequence p q) a b d = absurd (a p q refl)
+        go (Ty.Choice p q) a b d = absurd (b p q refl)
+        go (Ty.Star p) a b d = absurd (d p refl)
+        go (Ty.Name x) a b d = tt
 
 -- ---- from row to row
 
@@ -153,7 +149,7 @@ down_same row old new (TypeRow.choice p q) k h d = (
 down_same row old new (TypeRow.star p) k h d = λ b l. h p (inr refl) b l ∙ d b l ∙ rw (h k (inl refl) b l)
 down_same row old new (TypeRow.name x) k h d = tt
 
-pub falling_none : (row : ℕ → Cells) (root t : List ℕ) (top : ℕ) → Clear t → Falling row root t top top
+pub falling_none : (row : ℕ → Cells) (root : List Bool) (t : List ℕ) (top : ℕ) → Clear t → Falling row root t top top
 falling_none row root t top c = record {
   size = c.size;
   none = λ j p n b l. c.none j b l;
@@ -161,7 +157,7 @@ falling_none row root t top c = record {
   ended = λ k p q. absurd (omega arith);
 }
 
-module _ {row : ℕ → Cells} {n : ℕ} (R : Rows row n) (root : List ℕ) (top : ℕ) (few : top ≤ n) (free : Free row root top) where
+module _ {row : ℕ → Cells} {n : ℕ} (R : Rows row n) (root : List Bool) (top : ℕ) (few : top ≤ n) (free : Free row root top) where
   module _ (i : ℕ) (low : 1 ≤ i) (high : i ≤ top) {t mid : List ℕ} (f : Falling row root t top i) (w : Ended t mid root i) where
     -- a side of a higher row is no side of this one
     other_user : (k j : ℕ) → i < k → k ≤ top → Side (row_form row k) j → Side (row_form row i) j → ⊥
@@ -231,34 +227,32 @@ module _ {row : ℕ → Cells} {n : ℕ} (R : Rows row n) (root : List ℕ) (top
     wired_by zero r l p q k h = absurd (omega arith)
     wired_by (suc n) r l p q k h = elim (dec_le r m) [
       | yes z ↦ blank_wired r (blank r p z) k
-      | no z ↦ rw (model_row R r) (go (view (row r)) (f.down r (omega arith) q) (λ w x. wired_by n w (omega (arith, x.lower)) x.low (omega (arith, x.lower))))
+      | no z ↦ rw (model_row R r) (go (row_form row r) refl (f.down r (omega arith) q) (λ w x. wired_by n w (omega (arith, x.lower)) x.low (omega (arith, x.lower))))
     ]
       where
-        go : {u : TypeRow} → View (row r) u → Down row t u r → ((w : ℕ) → Part r w → (k : Set) → ((b : ℕ) → set_of t w b ≡ k b) → Wired (set_of t) (row_model row w) k)
+        go : (u : TypeRow) → u ≡ row_form row r → Down row t u r → ((w : ℕ) → Part r w → (k : Set) → ((b : ℕ) → set_of t w b ≡ k b) → Wired (set_of t) (row_model row w) k)
             → Wired (set_of t) (model_form u r (row_model row)) k
-        go v_none d again = tt
-        go v_empty d again = tt
-        go (v_text c) d again = (p, h)
-        go (v_bool c) d again = (p, h)
-        go (v_label c) d again = (p, h)
-        go (v_seq c) d again =
-            let x = seq_row R r c in
-            let v = (row r).q in (
-              again _ x.0 (starting (row_model row v) k) (λ b. wide (row r).p (λ b. first (row_model row v) b || nullable (row_model row v) && set_of t r b)
+        go TypeRow.none c d again = tt
+        go TypeRow.empty c d again = tt
+        go TypeRow.text c d again = (p, h)
+        go TypeRow.bool c d again = (p, h)
+        go (TypeRow.label n v) c d again = (p, h)
+        go (TypeRow.seq p v) c d again =
+            let x = seq_parts R c in (
+              again _ x.0 (starting (row_model row v) k) (λ b. wide p (λ b. first (row_model row v) b || nullable (row_model row v) && set_of t r b)
                   (λ b l. d.0 b l ∙ rw (near r b l)) (λ b l. rw (past v (omega (arith, x.1.lower)) b l, far r b l, and_false (nullable (row_model row v)))) b ∙ rw (h b)),
               again _ x.1 k (λ b. wide v (set_of t r) (λ b l. d.1 b l ∙ sym (near r b l)) (far r) b ∙ h b),
             )
-        go (v_choice c) d again =
-            let x = choice_row R r c in (
-              again _ x.0 k (λ b. wide (row r).p (set_of t r) (λ b l. d.0 b l ∙ sym (near r b l)) (far r) b ∙ h b),
-              again _ x.1 k (λ b. wide (row r).q (set_of t r) (λ b l. d.1 b l ∙ sym (near r b l)) (far r) b ∙ h b),
+        go (TypeRow.choice p v) c d again =
+            let x = choice_parts R c in (
+              again _ x.0 k (λ b. wide p (set_of t r) (λ b l. d.0 b l ∙ sym (near r b l)) (far r) b ∙ h b),
+              again _ x.1 k (λ b. wide v (set_of t r) (λ b l. d.1 b l ∙ sym (near r b l)) (far r) b ∙ h b),
             )
-        go (v_star c) d again =
-            let x = star_row R r c in
-            let v = (row r).p in
+        go (TypeRow.star v) c d again =
+            let x = star_part R c in
             again v x (turning (row_model row v) k) (λ b. wide v (λ b. first (row_model row v) b || set_of t r b)
             (λ b l. d b l ∙ rw (near r b l)) (λ b l. rw (past v (omega (arith, x.lower)) b l, far r b l)) b ∙ rw (h b))
-        go (v_name c) d again = (p, h)
+        go (TypeRow.name v) c d again = (p, h)
 
     pub wires : Wires row root t top
     wires = record {

@@ -1,5 +1,5 @@
 -- Row by row from below: whether a row may be empty and what may stand first, kind by kind.
-use Rattle.std.specs.Prelude.{ℕ, zero, suc, ◌+◌, ◌≤◌, ◌<◌, ◌≡◌, ◌&&◌, ◌||◌, List, ◌⊎◌, ltb, length, set}
+use Rattle.std.specs.Prelude.{ℕ, zero, suc, ◌+◌, ◌≤◌, ◌<◌, ◌≡◌, Bool, ◌&&◌, ◌||◌, List, ◌⊎◌, ltb, length, set}
 use Rattle.std.proofs.Math.Path.{refl, sym, ap}
 use Rattle.std.proofs.Common.{◌∙◌, inl, inr, add-one, arith, length-set, ltb-true, ltb-false}
 use Rattle.std.proofs.Math.Bool.{true, false}
@@ -11,15 +11,18 @@ use Rattle.meaning.specs.Kinds.{TypeRow, type_form}
 use Rattle.meaning.specs.Places.{model_form, nullable, first}
 use Rattle.meaning.specs.Laws.Bools.{or_false, either}
 use Rattle.meaning.specs.Laws.Tests.{table_low, table_high}
-use Rattle.meaning.specs.Laws.Apart.{PlaceKind, View, v_none, v_empty, v_text, v_bool, v_label, v_seq, v_choice, v_star, v_name, view, Side, side_lower, model_at_row, model_below, first_has}
+use Rattle.meaning.specs.Laws.Apart.{Side, side_lower, model_at_row, model_below, first_has}
 use Rattle.meaning.specs.Laws.Shaped.{Part}
 use Rattle.bits.specs.Sets.{in_set, Added, United}
+use Rattle.sheet.specs.declared.forms.Ty.{Ty}
+use Rattle.sheet.specs.Forms.{type_said}
 use Rattle.type_barren.specs.Flags.{flag, flag_set, flag_kept}
 use Rattle.type_places.specs.Tables.{row_form, row_model, Rows, set_of, Nulls, Firsts, Tables}
 use Rattle.bits.specs.Sets.{Clear}
 
-pub place_kind : (k : ℕ) → 2 ≤ k → k < 5 → PlaceKind k
-place_kind k l h = elim (ℕ_discrete k 2) [ yes z ↦ inl z | no z ↦ elim (ℕ_discrete k 3) [ yes y ↦ inr (inl y) | no y ↦ inr (inr (inl (omega arith))) ] ]
+-- what is a place
+abbrev pub IsPlace : Ty → Type 0
+IsPlace t = (t ≡ Ty.Text) ⊎ ((t ≡ Ty.Bool) ⊎ (((l : ℕ) × (q : ℕ) × (t ≡ Ty.Label l q)) ⊎ ((x : ℕ) × (t ≡ Ty.Name x))))
 
 module _ {row : ℕ → Cells} {n : ℕ} (R : Rows row n) where
   pub few_rows : {i : ℕ} → i ≤ n → i ≤ 512
@@ -32,18 +35,21 @@ module _ {row : ℕ → Cells} {n : ℕ} (R : Rows row n) where
   pub side_part : (i j : ℕ) → Side (row_form row i) j → Part i j
   side_part i j x = record { low = R.low i j x; lower = side_lower (row_form row i) i j (R.lower i) x }
 
-  -- kinds 5 and 6: two parts; kind 7: one
-  pub seq_row : (i : ℕ) → (row i).kind ≡ 5 → Part i (row i).p × Part i (row i).q
-  unfolding Side
-  seq_row i k = (side_part i (row i).p (rw k (inl refl)), side_part i (row i).q (rw k (inr refl)))
+  side_said : {t : TypeRow} {i j : ℕ} → t ≡ row_form row i → Side t j → Part i j
+  side_said {i = i} {j = j} z x = side_part i j (rw z at x)
 
-  pub choice_row : (i : ℕ) → (row i).kind ≡ 6 → Part i (row i).p × Part i (row i).q
+  -- a sequence and a choice have two parts, a star one
+  pub seq_parts : {i p q : ℕ} → TypeRow.seq p q ≡ row_form row i → Part i p × Part i q
   unfolding Side
-  choice_row i k = (side_part i (row i).p (rw k (inl refl)), side_part i (row i).q (rw k (inr refl)))
+  seq_parts z = (side_said z (inl refl), side_said z (inr refl))
 
-  pub star_row : (i : ℕ) → (row i).kind ≡ 7 → Part i (row i).p
+  pub choice_parts : {i p q : ℕ} → TypeRow.choice p q ≡ row_form row i → Part i p × Part i q
   unfolding Side
-  star_row i k = side_part i (row i).p (rw k refl)
+  choice_parts z = (side_said z (inl refl), side_said z (inr refl))
+
+  pub star_part : {i p : ℕ} → TypeRow.star p ≡ row_form row i → Part i p
+  unfolding Side
+  star_part z = side_said z refl
 
   -- a place is at most the row of its model
   pub first_below : (r b : ℕ) → r < b → first (row_model row r) b ≡ false
@@ -53,39 +59,48 @@ module _ {row : ℕ → Cells} {n : ℕ} (R : Rows row n) where
   ]
 
   module _ (i : ℕ) (c : Cells) (r : c ≡ row i) where
+    said : {t : TypeRow} → t ≡ type_form c → t ≡ row_form row i
+    said z = z ∙ ap type_form r
+
+    model_said : {t : TypeRow} → t ≡ type_form c → model_form t i (row_model row) ≡ row_model row i
+    model_said z = ap (λ t. model_form t i (row_model row)) (said z) ∙ sym (model_row i)
+
+    -- a row's sides are below it
+    pub seq_sides : {p q : ℕ} → TypeRow.seq p q ≡ type_form c → (p < i) × (q < i)
+    seq_sides z = let w = seq_parts (said z) in (w.0.lower, w.1.lower)
+
+    pub choice_sides : {p q : ℕ} → TypeRow.choice p q ≡ type_form c → (p < i) × (q < i)
+    choice_sides z = let w = choice_parts (said z) in (w.0.lower, w.1.lower)
+
+    pub star_side : {p : ℕ} → TypeRow.star p ≡ type_form c → p < i
+    star_side z = (star_part (said z)).lower
+
     -- ---- may row i be empty
 
-    module _ {null : List ℕ} (N : Nulls row null i) where
-      pub seq_null : c.kind ≡ 5 → flag null c.p && flag null c.q ≡ nullable (row_model row i)
+    null_said : {t : TypeRow} → t ≡ type_form c → nullable (model_form t i (row_model row)) ≡ nullable (row_model row i)
+    null_said z = ap nullable (model_said z)
+
+    module _ {null : List Bool} (N : Nulls row null i) where
+      pub seq_null : {p q : ℕ} → TypeRow.seq p q ≡ type_form c → flag null p && flag null q ≡ nullable (row_model row i)
       unfolding nullable model_form
-      seq_null k = let k' = rw r at k in let p = seq_row i k' in rw (r, N.at _ p.0.low p.0.lower, N.at _ p.1.low p.1.lower) (sym (ap nullable (model_row i) ∙ rw k'))
+      seq_null z = let w = seq_parts (said z) in rw (N.at _ w.0.low w.0.lower, N.at _ w.1.low w.1.lower) (null_said z)
 
-      pub choice_null : c.kind ≡ 6 → flag null c.p || flag null c.q ≡ nullable (row_model row i)
+      pub choice_null : {p q : ℕ} → TypeRow.choice p q ≡ type_form c → flag null p || flag null q ≡ nullable (row_model row i)
       unfolding nullable model_form
-      choice_null k = let k' = rw r at k in let p = choice_row i k' in rw (r, N.at _ p.0.low p.0.lower, N.at _ p.1.low p.1.lower) (sym (ap nullable (model_row i) ∙ rw k'))
+      choice_null z = let w = choice_parts (said z) in rw (N.at _ w.0.low w.0.lower, N.at _ w.1.low w.1.lower) (null_said z)
 
-    -- rows of kind 2, 3, 4 and 8 are places
-    pub place_null : PlaceKind c.kind → false ≡ nullable (row_model row i)
+    pub place_null : {t : Ty} → type_said t ≡ type_form c → IsPlace t → false ≡ nullable (row_model row i)
     unfolding nullable model_form
-    place_null (inl k) = let k' = rw r at k in sym (ap nullable (model_row i) ∙ rw k')
-    place_null (inr (inl k)) = let k' = rw r at k in sym (ap nullable (model_row i) ∙ rw k')
-    place_null (inr (inr (inl k))) = let k' = rw r at k in sym (ap nullable (model_row i) ∙ rw k')
-    place_null (inr (inr (inr k))) = let k' = rw r at k in sym (ap nullable (model_row i) ∙ rw k')
+    place_null z (inl k) = null_said (rw k at z)
+    place_null z (inr (inl k)) = null_said (rw k at z)
+    place_null z (inr (inr (inl (l, q, k)))) = null_said (rw k at z)
+    place_null z (inr (inr (inr (x, k)))) = null_said (rw k at z)
 
-    pub other_null : (c.kind ≡ 2 → ⊥) → (c.kind ≡ 3 → ⊥) → (c.kind ≡ 4 → ⊥) → (c.kind ≡ 8 → ⊥) → (c.kind ≡ 5 → ⊥) → (c.kind ≡ 6 → ⊥) → true ≡ nullable (row_model row i)
+    pub other_null : {t : Ty} → type_said t ≡ type_form c → (t ≡ Ty.Nothing) ⊎ ((t ≡ Ty.Empty) ⊎ ((p : ℕ) × (t ≡ Ty.Star p))) → true ≡ nullable (row_model row i)
     unfolding nullable model_form
-    other_null x2 x3 x4 x8 x5 x6 = sym (ap nullable (model_row i) ∙ ap (λ x. nullable (model_form (type_form x) i (row_model row))) (sym r) ∙ go (view c))
-      where
-        go : {t : TypeRow} → View c t → nullable (model_form t i (row_model row)) ≡ true
-        go v_none = refl
-        go v_empty = refl
-        go (v_text k) = absurd (x2 k)
-        go (v_bool k) = absurd (x3 k)
-        go (v_label k) = absurd (x4 k)
-        go (v_seq k) = absurd (x5 k)
-        go (v_choice k) = absurd (x6 k)
-        go (v_star k) = refl
-        go (v_name k) = absurd (x8 k)
+    other_null z (inl k) = null_said (rw k at z)
+    other_null z (inr (inl k)) = null_said (rw k at z)
+    other_null z (inr (inr (p, k))) = null_said (rw k at z)
 
     -- ---- what may stand first at row i
 
@@ -98,15 +113,18 @@ module _ {row : ℕ → Cells} {n : ℕ} (R : Rows row n) where
         none = λ j p b l. others j b (λ d. omega arith) l ∙ f.none j (omega arith) b l;
       }
 
-      pub place_first : PlaceKind c.kind → {new : List ℕ} → Added t new i i → Firsts row new (i + 1)
+      first_said : {t : TypeRow} → t ≡ type_form c → (b : ℕ) → first (model_form t i (row_model row)) b ≡ first (row_model row i) b
+      first_said z b = ap (λ m. first m b) (model_said z)
+
+      pub place_first : {u : Ty} → type_said u ≡ type_form c → IsPlace u → {new : List ℕ} → Added t new i i → Firsts row new (i + 1)
       unfolding first model_form
-      place_first k {new} a = more new a.size (λ b l. a.into b l ∙ rw (f.none i (omega arith) b l) (go k b)) a.others
+      place_first {u} z k {new} a = more new a.size (λ b l. a.into b l ∙ rw (f.none i (omega arith) b l) (go k b)) a.others
         where
-          go : PlaceKind c.kind → (b : ℕ) → eqb i b ≡ first (row_model row i) b
-          go (inl k) b = let k' = rw r at k in sym (ap (λ m. first m b) (model_row i) ∙ rw k')
-          go (inr (inl k)) b = let k' = rw r at k in sym (ap (λ m. first m b) (model_row i) ∙ rw k')
-          go (inr (inr (inl k))) b = let k' = rw r at k in sym (ap (λ m. first m b) (model_row i) ∙ rw k')
-          go (inr (inr (inr k))) b = let k' = rw r at k in sym (ap (λ m. first m b) (model_row i) ∙ rw k')
+          go : IsPlace u → (b : ℕ) → eqb i b ≡ first (row_model row i) b
+          go (inl k) b = first_said (rw k at z) b
+          go (inr (inl k)) b = first_said (rw k at z) b
+          go (inr (inr (inl (l, q, k)))) b = first_said (rw k at z) b
+          go (inr (inr (inr (x, k)))) b = first_said (rw k at z) b
 
       -- one part of row i, then another
       one : (w : ℕ) → Part i w → {new : List ℕ} → United t new i t w → (b : ℕ) → b < 576 → in_set new i b ≡ first (row_model row w) b
@@ -116,71 +134,65 @@ module _ {row : ℕ → Cells} {n : ℕ} (R : Rows row n) where
           → in_set new i b ≡ first (row_model row w) b || first (row_model row v) b
       two w v p o u x b l = x.into b l ∙ rw (one w p u b l, u.others v b (λ d. omega (arith, o.lower)) l, f.at v o.low o.lower b l)
 
-      pub seq_first : c.kind ≡ 5 → {null : List ℕ} → Nulls row null i → flag null c.p ≡ true → {mid new : List ℕ} → United t mid i t c.p → United mid new i mid c.q → Firsts row new (i + 1)
+      pub seq_first : {p q : ℕ} → TypeRow.seq p q ≡ type_form c → {null : List Bool} → Nulls row null i → flag null p ≡ true → {mid new : List ℕ} → United t mid i t p → United mid new i mid q
+          → Firsts row new (i + 1)
       unfolding first model_form
-      seq_first k n z {mid} {new} u x =
-          let k' = rw r at k in let p = seq_row i k' in
-          let z' = sym (n.at _ p.0.low p.0.lower) ∙ (rw r at z) in
-          more new (x.size ∙ u.size) (λ b l. two _ _ p.0 p.1 (rw r at u) (rw r at x) b l ∙ sym (ap (λ m. first m b) (model_row i) ∙ rw (k', z')))
-          (λ k b d l. x.others k b d l ∙ u.others k b d l)
+      seq_first z n h {mid} {new} u x =
+          let w = seq_parts (said z) in
+          let h' = sym (n.at _ w.0.low w.0.lower) ∙ h in
+          more new (x.size ∙ u.size) (λ b l. two _ _ w.0 w.1 u x b l ∙ rw h' at (first_said z b)) (λ k b d l. x.others k b d l ∙ u.others k b d l)
 
-      pub seq_first_left : c.kind ≡ 5 → {null : List ℕ} → Nulls row null i → flag null c.p ≡ false → {new : List ℕ} → United t new i t c.p → Firsts row new (i + 1)
+      pub seq_first_left : {p q : ℕ} → TypeRow.seq p q ≡ type_form c → {null : List Bool} → Nulls row null i → flag null p ≡ false → {new : List ℕ} → United t new i t p → Firsts row new (i + 1)
       unfolding first model_form
-      seq_first_left k n z {new} u =
-          let k' = rw r at k in let p = seq_row i k' in
-          let z' = sym (n.at _ p.0.low p.0.lower) ∙ (rw r at z) in
-          more new u.size (λ b l. one _ p.0 (rw r at u) b l ∙ sym (ap (λ m. first m b) (model_row i) ∙ rw (k', z') (or_false (first (row_model row (row i).p) b)))) u.others
+      seq_first_left {p} z n h {new} u =
+          let w = seq_parts (said z) in
+          let h' = sym (n.at _ w.0.low w.0.lower) ∙ h in
+          more new u.size (λ b l. one _ w.0 u b l ∙ sym (or_false (first (row_model row p) b)) ∙ rw h' at (first_said z b)) u.others
 
-      pub choice_first : c.kind ≡ 6 → {mid new : List ℕ} → United t mid i t c.p → United mid new i mid c.q → Firsts row new (i + 1)
+      pub choice_first : {p q : ℕ} → TypeRow.choice p q ≡ type_form c → {mid new : List ℕ} → United t mid i t p → United mid new i mid q → Firsts row new (i + 1)
       unfolding first model_form
-      choice_first k {mid} {new} u x =
-          let k' = rw r at k in let p = choice_row i k' in
-          more new (x.size ∙ u.size) (λ b l. two _ _ p.0 p.1 (rw r at u) (rw r at x) b l ∙ sym (ap (λ m. first m b) (model_row i) ∙ rw k')) (λ k b d l. x.others k b d l ∙ u.others k b d l)
+      choice_first z {mid} {new} u x =
+          let w = choice_parts (said z) in
+          more new (x.size ∙ u.size) (λ b l. two _ _ w.0 w.1 u x b l ∙ first_said z b) (λ k b d l. x.others k b d l ∙ u.others k b d l)
 
-      pub star_first : c.kind ≡ 7 → {new : List ℕ} → United t new i t c.p → Firsts row new (i + 1)
+      pub star_first : {p : ℕ} → TypeRow.star p ≡ type_form c → {new : List ℕ} → United t new i t p → Firsts row new (i + 1)
       unfolding first model_form
-      star_first k {new} u =
-          let k' = rw r at k in let p = star_row i k' in
-          more new u.size (λ b l. one _ p (rw r at u) b l ∙ sym (ap (λ m. first m b) (model_row i) ∙ rw k')) u.others
+      star_first z {new} u = more new u.size (λ b l. one _ (star_part (said z)) u b l ∙ first_said z b) u.others
 
-      pub other_first : (c.kind ≡ 2 → ⊥) → (c.kind ≡ 3 → ⊥) → (c.kind ≡ 4 → ⊥) → (c.kind ≡ 8 → ⊥) → (c.kind ≡ 5 → ⊥) → (c.kind ≡ 6 → ⊥) → (c.kind ≡ 7 → ⊥) → Firsts row t (i + 1)
+      bare : {u : TypeRow} → u ≡ type_form c → ((b : ℕ) → false ≡ first (model_form u i (row_model row)) b) → Firsts row t (i + 1)
+      bare z h = more t refl (λ b l. f.none i (omega arith) b l ∙ h b ∙ first_said z b) (λ k b d l. refl)
+
+      pub blank_first : TypeRow.none ≡ type_form c → Firsts row t (i + 1)
       unfolding first model_form
-      other_first x2 x3 x4 x8 x5 x6 x7 = more t refl (λ b l. f.none i (omega arith) b l
-          ∙ sym (ap (λ m. first m b) (model_row i) ∙ ap (λ x. first (model_form (type_form x) i (row_model row)) b) (sym r) ∙ go b (view c))) (λ k b d l. refl)
-        where
-          go : (b : ℕ) → {t : TypeRow} → View c t → first (model_form t i (row_model row)) b ≡ false
-          go b v_none = refl
-          go b v_empty = refl
-          go b (v_text k) = absurd (x2 k)
-          go b (v_bool k) = absurd (x3 k)
-          go b (v_label k) = absurd (x4 k)
-          go b (v_seq k) = absurd (x5 k)
-          go b (v_choice k) = absurd (x6 k)
-          go b (v_star k) = absurd (x7 k)
-          go b (v_name k) = absurd (x8 k)
+      blank_first z = bare z (λ b. refl)
+
+      pub other_first : {u : Ty} → type_said u ≡ type_form c → (u ≡ Ty.Nothing) ⊎ (u ≡ Ty.Empty) → Firsts row t (i + 1)
+      unfolding first model_form
+      other_first z (inl k) = bare (rw k at z) (λ b. refl)
+      other_first z (inr k) = bare (rw k at z) (λ b. refl)
 
 -- ---- where the loop begins, goes on and ends
 
 -- a blank row may be empty, and nothing stands first at it
 module _ {row : ℕ → Cells} {n : ℕ} (R : Rows row n) where
   blank_null : (i : ℕ) → (row i).kind ≡ 0 → true ≡ nullable (row_model row i)
-  blank_null i k = other_null R i (row i) refl (λ z. omega arith) (λ z. omega arith) (λ z. omega arith) (λ z. omega arith) (λ z. omega arith) (λ z. omega arith)
+  blank_null i k = other_null R i (row i) refl {t = Ty.Nothing} (rw k) (inl refl)
 
-  pub nulls_low : (null : List ℕ) (low : ℕ) → length null ≡ 513 → ((i : ℕ) → 1 ≤ i → i ≤ low → ((row i).kind ≡ 0) × (flag null i ≡ true)) → Nulls row null (low + 1)
+  pub nulls_low : (null : List Bool) (low : ℕ) → length null ≡ 513 → ((i : ℕ) → 1 ≤ i → i ≤ low → ((row i).kind ≡ 0) × (flag null i ≡ true)) → Nulls row null (low + 1)
   nulls_low null low l h = record { size = l; at = λ j p q. (let z = h j p (omega arith) in z.1 ∙ blank_null j z.0) }
 
   pub firsts_low : (t : List ℕ) → Clear t → (low : ℕ) → ((i : ℕ) → 1 ≤ i → i ≤ low → (row i).kind ≡ 0) → Firsts row t (low + 1)
   firsts_low t c zero h = record { size = c.size; at = λ j p q. absurd (omega arith); none = λ j p b l. c.none j b l }
   firsts_low t c (suc k) h = let f = rw (add-one k) at (firsts_low t c k (λ i p q. h i p (omega arith))) in let z = h (suc k) (omega arith) (omega arith) in
-      other_first R (suc k) (row (suc k)) refl f (λ y. omega arith) (λ y. omega arith) (λ y. omega arith) (λ y. omega arith) (λ y. omega arith) (λ y. omega arith) (λ y. omega arith)
+      blank_first R (suc k) (row (suc k)) refl f (rw z)
 
-pub nulls_more : (row : ℕ → Cells) (null : List ℕ) (i v : ℕ) → Nulls row null i → i < 513 → eqb v 1 ≡ nullable (row_model row i) → Nulls row (set null i v) (i + 1)
+pub nulls_more : (row : ℕ → Cells) (null : List Bool) (i : ℕ) (v : Bool) → Nulls row null i → i < 513 → v ≡ nullable (row_model row i) → Nulls row (set null i v) (i + 1)
 nulls_more row null i v n l e = record {
   size = length-set null i v ∙ n.size;
   at = λ j p q. elim (ℕ_discrete j i) [ yes d ↦ rw d (flag_set null i v (omega (arith, n.size)) ∙ e) | no d ↦ flag_kept null i v j d ∙ n.at j p (omega arith) ];
 }
 
-pub tables : {row : ℕ → Cells} {n : ℕ} → Rows row n → {null t : List ℕ} {i : ℕ} → n < i → Nulls row null i → Firsts row t i → Tables row n null t
+pub tables : {row : ℕ → Cells} {n : ℕ} → Rows row n → {null : List Bool} {t : List ℕ} {i : ℕ} → n < i → Nulls row null i → Firsts row t i → Tables row n null t
 tables {row} {n} R {null} {t} {i} h N f = record {
   size = f.size;
   empty = λ r x. N.at r (table_low n r x) (omega (arith, table_high n r x));

@@ -1,13 +1,12 @@
--- A shaped sheet's types are such a table, and a layout tells where it begins.
-use Rattle.std.specs.Prelude.{ℕ, ◌≤◌, ◌≡◌, true, List}
+-- A shaped sheet's types are such a table, and so is the table that it lends.
+use Rattle.std.specs.Prelude.{ℕ, ◌≤◌, ◌≡◌, Bool, true, List}
 use Rattle.std.proofs.Common.{inl, inr}
-use Rattle.meaning.specs.Sheet.{row3, script_of}
+use Rattle.meaning.specs.Sheet.{script_of}
 use Rattle.meaning.specs.Kinds.{TypeRow}
 use Rattle.meaning.specs.Shape.{shapely}
 use Rattle.meaning.specs.Laws.Shaped.{seq_row, choice_row, star_row, few_types}
 use Rattle.meaning.specs.Laws.Apart.{Side, View, v_none, v_empty, v_text, v_bool, v_label, v_seq, v_choice, v_star, v_name, view, shaped_lower, shaped_once}
-use Rattle.sheet.specs.declared.Layout.{Layout}
-use Rattle.sheet.specs.Laid.{Laid}
+use Rattle.sheet.specs.Table.{Table, rows_in, types_in}
 use Rattle.type_places.specs.Tables.{row_form, Rows, Tables, Free, Wires}
 
 module _ (s : List ℕ) (e : shapely s ≡ true) where
@@ -31,19 +30,20 @@ module _ (s : List ℕ) (e : shapely s ≡ true) where
   pub shaped_rows : Rows (script_of s).type_row (script_of s).types
   shaped_rows = record { few = few_types s e; lower = shaped_lower s e; once = shaped_once s e; low = side_low }
 
-module _ {s : List ℕ} {l : Layout} (L : Laid s l) where
-  pub laid_rows : shapely s ≡ true → Rows (row3 s l.types_at l.types) l.types
+-- the table that a sheet lends
+module _ {s : List ℕ} {t : Table} (is : t ≡ types_in s) where
+  pub laid_rows : shapely s ≡ true → Rows (rows_in t) t.rows
   unfolding script_of
-  laid_rows e = rw (L.types_at, L.types) (shaped_rows s e)
+  laid_rows e = rw is (shaped_rows s e)
 
-  pub laid_tables : {null t : List ℕ} → Tables (row3 s l.types_at l.types) l.types null t → Tables (script_of s).type_row (script_of s).types null t
+  pub laid_tables : {null : List Bool} {begin : List ℕ} → Tables (rows_in t) t.rows null begin → Tables (script_of s).type_row (script_of s).types null begin
   unfolding script_of
-  laid_tables T = rw (L.types_at, L.types) at T
+  laid_tables T = rw is at T
 
-  pub laid_free : (root : List ℕ) (top : ℕ) → Free (script_of s).type_row root top → Free (row3 s l.types_at l.types) root top
+  pub laid_free : (root : List Bool) (top : ℕ) → Free (script_of s).type_row root top → Free (rows_in t) root top
   unfolding script_of
-  laid_free root top F = rw (L.types_at, L.types) F
+  laid_free root top F = rw is F
 
-  pub laid_wires : {root t : List ℕ} {top : ℕ} → Wires (row3 s l.types_at l.types) root t top → Wires (script_of s).type_row root t top
+  pub laid_wires : {root : List Bool} {behind : List ℕ} {top : ℕ} → Wires (rows_in t) root behind top → Wires (script_of s).type_row root behind top
   unfolding script_of
-  laid_wires W = rw (L.types_at, L.types) at W
+  laid_wires W = rw is at W

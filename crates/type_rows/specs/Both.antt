@@ -1,5 +1,5 @@
 -- Two walks one after the other, then what follows; and what a row that is written asks, by its kind.
-use Rattle.std.specs.Prelude.{ℕ, ◌+◌, ◌≤◌, ◌<◌, ◌≡◌, refl, ◌⊎◌, List}
+use Rattle.std.specs.Prelude.{ℕ, ◌+◌, ◌≤◌, ◌<◌, ◌≡◌, refl, ◌⊎◌, List, Result}
 use native.Mathlib.Omega.{arith}
 use Rattle.std.proofs.Common.{sym, subst, inl, inr}
 use Rattle.meaning.specs.Types.{Ty, ty, ty_at}
@@ -7,10 +7,9 @@ use Rattle.meaning.specs.Check.{Asking}
 use Rattle.meaning.specs.Walk.{tick, ◌>>=◌}
 use Rattle.meaning.specs.Laws.Apart.{Low}
 use Rattle.meaning.specs.Laws.Walk.{leads_tick, leads_then}
-use Rattle.sheet.specs.Whole.{Whole}
+use Rattle.walk.specs.declared.Got.{Got}
 use Rattle.type_rows.specs.Grown.{ty_in}
 use Rattle.type_rows.specs.Finds.{top, Judges, Room, WriteAsks, Typed, Halted, Finds, finds_then, halt_then, halt_leads, type_after}
-use Rattle.type_rows.specs.declared.Found.{Found}
 use Rattle.type_rows.specs.declared.Halt.{Halt}
 
 -- row 0 is ()
@@ -33,7 +32,7 @@ module _ {w w' : Asking Ty} {s old mid : List ℕ} {left used x n left' : ℕ} (
   pub both_halt : {why : Halt} → Halted w' s left' why → Halted (w >>= λ x. w' >>= λ y. k x y) s left why
   both_halt h = halt_leads (leads_then (Judges s) (λ (σ : Ty). w' >>= λ y. k σ y) f.settles) (halt_then (k (ty_in s mid n x)) h)
 
-  pub both_finds : {new end : List ℕ} {y m left'' : ℕ} {a : Found} → Typed w' s left' n mid new y m left'' → Finds (k (ty_in s new m x) (ty_in s new m y)) s left'' m new end a
+  pub both_finds : {new end : List ℕ} {y m left'' : ℕ} {a : Result Got Halt} → Typed w' s left' n mid new y m left'' → Finds (k (ty_in s new m x) (ty_in s new m y)) s left'' m new end a
       → Finds (w >>= λ x. w' >>= λ y. k x y) s left used old end a
   both_finds {new} {end} {y} {m} {left''} {a} g b =
       finds_then (λ (σ : Ty). w' >>= λ y. k σ y) f
@@ -41,25 +40,24 @@ module _ {w w' : Asking Ty} {s old mid : List ℕ} {left used x n left' : ℕ} (
 
 -- ---- what a row that is written asks
 
-module _ {s work : List ℕ} {used left : ℕ} (whole : Whole s) (room : Room s work used left) where
+module _ {s work : List ℕ} {used left : ℕ} (room : Room s work used left) where
   -- (), text and bool
   pub asks_empty : WriteAsks s work used 1 0 0 left
   unfolding Low
-  asks_empty = record { whole = whole; room = room; low = tt; known = λ e. absurd (omega (arith, e)); small_kind = omega arith; small_p = omega arith; small_q = omega arith }
+  asks_empty = record { room = room; low = tt; known = λ e. absurd (omega (arith, e)); small_kind = omega arith; small_p = omega arith; small_q = omega arith }
 
   pub asks_text : WriteAsks s work used 2 0 0 left
   unfolding Low
-  asks_text = record { whole = whole; room = room; low = omega arith; known = λ e. absurd (omega (arith, e)); small_kind = omega arith; small_p = omega arith; small_q = omega arith }
+  asks_text = record { room = room; low = omega arith; known = λ e. absurd (omega (arith, e)); small_kind = omega arith; small_p = omega arith; small_q = omega arith }
 
   pub asks_bool : WriteAsks s work used 3 0 0 left
   unfolding Low
-  asks_bool = record { whole = whole; room = room; low = omega arith; known = λ e. absurd (omega (arith, e)); small_kind = omega arith; small_p = omega arith; small_q = omega arith }
+  asks_bool = record { room = room; low = omega arith; known = λ e. absurd (omega (arith, e)); small_kind = omega arith; small_p = omega arith; small_q = omega arith }
 
   -- of parts that are types already
   pub asks_label : (k x : ℕ) → k < 65536 → x ≤ top s + used → WriteAsks s work used 4 k x left
   unfolding Low
   asks_label k x h i = record {
-    whole = whole;
     room = room;
     low = omega (arith, i);
     known = λ e. absurd (omega (arith, e));
@@ -72,7 +70,6 @@ module _ {s work : List ℕ} {used left : ℕ} (whole : Whole s) (room : Room s 
   pub asks_seq : (x y : ℕ) → x ≤ top s + used → y ≤ top s + used → WriteAsks s work used 5 x y left
   unfolding Low
   asks_seq x y h i = record {
-    whole = whole;
     room = room;
     low = (omega (arith, h), omega (arith, i));
     known = λ e. absurd (omega (arith, e));
@@ -85,7 +82,6 @@ module _ {s work : List ℕ} {used left : ℕ} (whole : Whole s) (room : Room s 
   pub asks_choice : (x y : ℕ) → x ≤ top s + used → y ≤ top s + used → WriteAsks s work used 6 x y left
   unfolding Low
   asks_choice x y h i = record {
-    whole = whole;
     room = room;
     low = (omega (arith, h), omega (arith, i));
     known = λ e. absurd (omega (arith, e));
@@ -102,7 +98,6 @@ module _ {s work : List ℕ} {used left : ℕ} (whole : Whole s) (room : Room s 
   pub asks_star : (x : ℕ) → x ≤ top s + used → WriteAsks s work used 7 x 0 left
   unfolding Low
   asks_star x h = record {
-    whole = whole;
     room = room;
     low = omega (arith, h);
     known = λ e. absurd (omega (arith, e));

@@ -1,30 +1,32 @@
 -- What a check's evaluator asks, what its answer has to be by the walk that the definition gives, and a law for each way in which an evaluator makes its answer from another's.
-use Rattle.std.specs.Prelude.{ℕ, zero, suc, ◌+◌, ◌*◌, ◌≤◌, ◌<◌, ◌≡◌, refl, true, List, [], ◌∷◌, ◌++◌, length}
+use Rattle.std.specs.Prelude.{ℕ, zero, suc, ◌+◌, ◌*◌, ◌≤◌, ◌<◌, ◌≡◌, refl, true, List, [], ◌∷◌, ◌++◌, length, Result, Ok, Err}
+use Rattle.std.specs.Result.{IsErrAnd}
 use Rattle.std.proofs.Common.{arith, sym, subst}
+use Rattle.std.proofs.lemmas.Result.{err_from_is_err_and}
 use Rattle.meaning.specs.Sheet.{script_of}
 use Rattle.meaning.specs.Types.{Ty, Named, names_in, atom_of}
 use Rattle.meaning.specs.Types as types
 use Rattle.meaning.specs.Tests.{in_table}
 use Rattle.meaning.specs.Kinds.{type_form}
 use Rattle.meaning.specs.Laws.Apart.{Low}
-use Rattle.sheet.specs.Whole.{Whole}
 use Rattle.meaning.specs.Check.{Question, Judged, Asking}
-use Rattle.meaning.specs.Walk.{Place, Walk, ret, halt, tick, ◌>>=◌, Verdict, gives, fuel, stops, Settles, done, halted, short}
+use Rattle.meaning.specs.Walk.{Walk, ret, halt, tick, ◌>>=◌, Verdict, gives, fuel, stops, Settles, done, halted, short}
 use Rattle.meaning.specs.Walk as meaning
 use Rattle.meaning.specs.Laws.Rows.{SameRows}
 use Rattle.meaning.specs.Laws.Walk.{Leads, leads_tick, leads_then, stops_then, fuel_then}
 use Rattle.meaning.specs.Theorems.ReadBack.{lent_row}
+use Rattle.walk.specs.Concern.{concern_of}
 use Rattle.walk.specs.Scope.{live, values, Scoped, Fresh, More, scoped_more, values_same, values_last}
 use Rattle.walk.specs.Meets.{same_trans}
 use Rattle.walk.specs.declared.Scope.{Scope}
+use Rattle.walk.specs.declared.Concern.{Concern}
+use Rattle.walk.specs.declared.Got.{Got}
 use Rattle.walk.specs.declared.Purse.{Purse}
 use Rattle.type_rows.specs.Grown.{Grows, ty_in, ty_kept}
 use Rattle.type_rows.specs.declared.Halt.{Halt}
 use Rattle.type_rows.specs.declared.Halt.TheVariants.{Fuel, Depth, Wide, Mismatch, Outside}
 use Rattle.type_rows.specs.declared.Atom.{Atom}
 use Rattle.type_rows.specs.declared.Atom.TheVariants.{Other, Text, Bool, Label}
-use Rattle.type_rows.specs.declared.Found.{Found}
-use Rattle.type_rows.specs.declared.Found.TheVariants.{Done, Not}
 
 abbrev pub top : List ℕ → ℕ
 top s = (script_of s).types
@@ -61,33 +63,30 @@ pub record Typed (w : Asking Ty) (s : List ℕ) (left used : ℕ) (old new : Lis
   pub grows : Grows s new used'
   pub same : SameRows (lent_row old) (lent_row new) used
 
-abbrev place : ℕ → ℕ → Place
-place row flag = record { row = row; flag = flag }
-
 abbrev pub HaltedBy : Asking Ty → List ℕ → ℕ → Halt → Type 0
 HaltedBy w s left Fuel = Settles (Judges s) w left fuel 0
 HaltedBy w s left (Depth p) = Settles (Judges s) w left (stops meaning.depth) p.left
-HaltedBy w s left (Wide row flag p) = Settles (Judges s) w left (stops (meaning.wide (record { row = row; flag = flag }))) p.left
-HaltedBy w s left (Mismatch row flag p) = Settles (Judges s) w left (stops (meaning.mismatch (record { row = row; flag = flag }))) p.left
-HaltedBy w s left (Outside row flag p) = Settles (Judges s) w left (stops (meaning.outside (record { row = row; flag = flag }))) p.left
+HaltedBy w s left (Wide at p) = Settles (Judges s) w left (stops (meaning.wide (concern_of at))) p.left
+HaltedBy w s left (Mismatch at p) = Settles (Judges s) w left (stops (meaning.mismatch (concern_of at))) p.left
+HaltedBy w s left (Outside at p) = Settles (Judges s) w left (stops (meaning.outside (concern_of at))) p.left
 
 pub record Halted (w : Asking Ty) (s : List ℕ) (left : ℕ) (why : Halt) : Type 0 where
   pub by : HaltedBy w s left why
 
-abbrev pub FindsBy : Asking Ty → List ℕ → ℕ → ℕ → List ℕ → List ℕ → Found → Type 0
-FindsBy w s left used old new (Done root used' p) = Typed w s left used old new root used' p.left
-FindsBy w s left used old new (Not why) = Halted w s left why
+abbrev pub FindsBy : Asking Ty → List ℕ → ℕ → ℕ → List ℕ → List ℕ → Result Got Halt → Type 0
+FindsBy w s left used old new (Ok g) = Typed w s left used old new g.root g.left.used g.left.purse.left
+FindsBy w s left used old new (Err why) = Halted w s left why
 
-pub record Finds (w : Asking Ty) (s : List ℕ) (left used : ℕ) (old new : List ℕ) (a : Found) : Type 0 where
+pub record Finds (w : Asking Ty) (s : List ℕ) (left used : ℕ) (old new : List ℕ) (a : Result Got Halt) : Type 0 where
   pub by : FindsBy w s left used old new a
 
 -- ---- what an arm of a `match` says of the answer, and back
 
-module _ {w : Asking Ty} {s : List ℕ} {left used : ℕ} {old new : List ℕ} {a : Found} where
-  pub finds_done : {root used' : ℕ} {p : Purse} → a ≡ Done root used' p → Finds w s left used old new a → Typed w s left used old new root used' p.left
+module _ {w : Asking Ty} {s : List ℕ} {left used : ℕ} {old new : List ℕ} {a : Result Got Halt} where
+  pub finds_done : {g : Got} → a ≡ Ok g → Finds w s left used old new a → Typed w s left used old new g.root g.left.used g.left.purse.left
   finds_done e m = subst (FindsBy w s left used old new) e m.by
 
-  pub finds_not : {why : Halt} → a ≡ Not why → Finds w s left used old new a → Halted w s left why
+  pub finds_not : {why : Halt} → a ≡ Err why → Finds w s left used old new a → Halted w s left why
   finds_not e m = subst (FindsBy w s left used old new) e m.by
 
   -- the definition in another form
@@ -95,10 +94,15 @@ module _ {w : Asking Ty} {s : List ℕ} {left used : ℕ} {old new : List ℕ} {
   finds_as e m = subst (λ (x : Asking Ty). Finds x s left used old new a) (sym e) m
 
 pub finds_of : {w : Asking Ty} {s : List ℕ} {left used : ℕ} {old new : List ℕ} {root used' left' : ℕ} → Typed w s left used old new root used' left'
-    → Finds w s left used old new (Done root used' (record { left = left' }))
+    → Finds w s left used old new (Ok (record { root = root; left = record { used = used'; purse = record { left = left' } } }))
 finds_of f = record { by = f }
 
-pub finds_halt : {w : Asking Ty} {s : List ℕ} {left used : ℕ} {old new : List ℕ} {why : Halt} → Halted w s left why → Finds w s left used old new (Not why)
+-- what a `?` hands on
+pub finds_err : {w : Asking Ty} {s : List ℕ} {left used : ℕ} {old new : List ℕ} {a : Result Got Halt} {why : Halt} → IsErrAnd a (λ (y : Halt). y ≡ why) → Halted w s left why
+    → Finds w s left used old new a
+finds_err {a = a} e h = let p = err_from_is_err_and a e in record { by = rw (p.1, p.2) h }
+
+pub finds_halt : {w : Asking Ty} {s : List ℕ} {left used : ℕ} {old new : List ℕ} {why : Halt} → Halted w s left why → Finds w s left used old new (Err why)
 finds_halt h = record { by = h }
 
 -- ---- by a walk that it leads to
@@ -110,9 +114,9 @@ module _ {w w' : Asking Ty} {s : List ℕ} {left left' : ℕ} (to : Leads (Judge
       go : (why : Halt) → HaltedBy w' s left' why → HaltedBy w s left why
       go Fuel h = to fuel 0 h
       go (Depth p) h = to (stops meaning.depth) p.left h
-      go (Wide row flag p) h = to (stops (meaning.wide (place row flag))) p.left h
-      go (Mismatch row flag p) h = to (stops (meaning.mismatch (place row flag))) p.left h
-      go (Outside row flag p) h = to (stops (meaning.outside (place row flag))) p.left h
+      go (Wide at p) h = to (stops (meaning.wide (concern_of at))) p.left h
+      go (Mismatch at p) h = to (stops (meaning.mismatch (concern_of at))) p.left h
+      go (Outside at p) h = to (stops (meaning.outside (concern_of at))) p.left h
 
   -- rows may be written on the way
   module _ {used used' : ℕ} {old mid new : List ℕ} (grown : used ≤ used') (paid : used' + left' ≤ used + left) (same : SameRows (lent_row old) (lent_row mid) used) where
@@ -126,15 +130,15 @@ module _ {w w' : Asking Ty} {s : List ℕ} {left left' : ℕ} (to : Leads (Judge
       same = same_trans used used' (lent_row old) (lent_row mid) (lent_row new) grown same f.same;
     }
 
-    pub finds_leads : {a : Found} → Finds w' s left' used' mid new a → Finds w s left used old new a
+    pub finds_leads : {a : Result Got Halt} → Finds w' s left' used' mid new a → Finds w s left used old new a
     finds_leads {a} m = record { by = go a m.by }
       where
-        go : (a : Found) → FindsBy w' s left' used' mid new a → FindsBy w s left used old new a
-        go (Done root n p) f = typed_leads f
-        go (Not why) h = halt_leads h
+        go : (a : Result Got Halt) → FindsBy w' s left' used' mid new a → FindsBy w s left used old new a
+        go (Ok g) f = typed_leads f
+        go (Err why) h = halt_leads h
 
 -- a part gave a type, and the rest goes on from it
-pub finds_then : {w : Asking Ty} {s : List ℕ} {left left' used used' root : ℕ} {old mid new : List ℕ} {a : Found} (k : Ty → Asking Ty) → Typed w s left used old mid root used' left'
+pub finds_then : {w : Asking Ty} {s : List ℕ} {left left' used used' root : ℕ} {old mid new : List ℕ} {a : Result Got Halt} (k : Ty → Asking Ty) → Typed w s left used old mid root used' left'
     → Finds (k (ty_in s mid used' root)) s left' used' mid new a → Finds (w >>= k) s left used old new a
 finds_then {s = s} k f m = finds_leads (leads_then (Judges s) k f.settles) f.grown f.paid f.same m
 
@@ -145,12 +149,13 @@ halt_then {w} {s} {left} {why} k h = record { by = go why h.by }
     go : (why : Halt) → HaltedBy w s left why → HaltedBy (w >>= k) s left why
     go Fuel h = fuel_then (Judges s) k h
     go (Depth p) h = stops_then (Judges s) k h
-    go (Wide row flag p) h = stops_then (Judges s) k h
-    go (Mismatch row flag p) h = stops_then (Judges s) k h
-    go (Outside row flag p) h = stops_then (Judges s) k h
+    go (Wide at p) h = stops_then (Judges s) k h
+    go (Mismatch at p) h = stops_then (Judges s) k h
+    go (Outside at p) h = stops_then (Judges s) k h
 
 -- a row's own unit
-pub finds_tick : {w : Asking Ty} {s : List ℕ} {left' used : ℕ} {old new : List ℕ} {a : Found} (left : ℕ) → left' + 1 ≡ left → Finds w s left' used old new a → Finds (tick w) s left used old new a
+pub finds_tick : {w : Asking Ty} {s : List ℕ} {left' used : ℕ} {old new : List ℕ} {a : Result Got Halt} (left : ℕ) → left' + 1 ≡ left → Finds w s left' used old new a
+    → Finds (tick w) s left used old new a
 finds_tick {w} {s} {left'} left e m = finds_leads (leads_tick (Judges s) w left left' e) (omega arith) (omega arith) (λ r i j. refl) m
 
 pub halt_tick : (w : Asking Ty) (s : List ℕ) (left : ℕ) → left < 1 → Halted (tick w) s left Fuel
@@ -160,8 +165,8 @@ halt_tick w s (suc left) h = absurd (omega arith)
 pub halt_depth : (s : List ℕ) (p : Purse) → Halted (halt meaning.depth) s p.left (Depth p)
 halt_depth s p = record { by = halted }
 
-pub halt_mismatch : (s : List ℕ) (row flag : ℕ) (p : Purse) → Halted (halt (meaning.mismatch (record { row = row; flag = flag }))) s p.left (Mismatch row flag p)
-halt_mismatch s row flag p = record { by = halted }
+pub halt_mismatch : (s : List ℕ) (at : Concern) (p : Purse) → Halted (halt (meaning.mismatch (concern_of at))) s p.left (Mismatch at p)
+halt_mismatch s at p = record { by = halted }
 
 -- a type as it stands
 pub typed_ret : {s work : List ℕ} {used root : ℕ} (left : ℕ) → Grows s work used → root ≤ top s + used → Typed (ret (ty_in s work used root)) s left used work work root used left
@@ -202,7 +207,6 @@ types_fresh {e} s work n f = rw f.none
 -- ---- a row is written
 
 pub record WriteAsks (s work : List ℕ) (used kind p q left : ℕ) : Type 0 where
-  pub whole : Whole s
   pub room : Room s work used left
   pub low : Low (type_form (record { kind = kind; p = p; q = q; r = 0 })) (top s + (used + 1))
   pub known : kind ≡ 8 → in_table (script_of s).names p ≡ true

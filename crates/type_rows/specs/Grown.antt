@@ -45,6 +45,14 @@ module _ (s work : List ℕ) (n : ℕ) where
   pub grown_row : Grows → (r : ℕ) → ty_in r ≡ ty_form (form_in r) ty_in
   grown_row g r = ty_at_row form_in g.low r
 
+-- a row that says t: its type, and its parts are lower rows
+module _ {s work : List ℕ} {n : ℕ} (g : Grows s work n) (r : ℕ) {c : Cells} (is : c ≡ type_in s work n r) {t : TypeRow} (e : t ≡ type_form c) where
+  pub row_says : ty_in s work n r ≡ ty_form t (ty_in s work n)
+  row_says = grown_row s work n g r ∙ ap (λ (x : TypeRow). ty_form x (ty_in s work n)) (sym (e ∙ ap type_form is))
+
+  pub row_low : Low t r
+  row_low = subst (λ (x : TypeRow). Low x r) (sym (e ∙ ap type_form is)) (g.low r)
+
 -- rows that agree below keep their types
 module _ (s old new : List ℕ) (n m : ℕ) (h : n ≤ m) (same : SameRows (lent_row old) (lent_row new) n) where
   pub row_kept : (i : ℕ) → i ≤ (script_of s).types + n → type_in s old n i ≡ type_in s new m i

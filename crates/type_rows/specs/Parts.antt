@@ -1,21 +1,20 @@
 -- What a type consists of, row by row, as the walk through its parts takes it; and what the walk finds at a row, from what it finds at the parts.
-use Prim.Native.Nat.{ℕ, zero, suc, ◌+◌, ◌≤◌, ◌<◌}
+use Prim.Native.Nat.{ℕ, ◌+◌, ◌≤◌, ◌<◌}
 use Rattle.std.proofs.Common.{arith, sym, ◌∙◌, subst}
-use Rattle.std.specs.Prelude.{◌≡◌, cond, ◌⊎◌, List, eqb}
+use Rattle.std.specs.Prelude.{◌≡◌, cond, ◌⊎◌, List, eqb, Result, Ok}
 use Rattle.std.proofs.Math.Path.{refl, ap}
 use Rattle.std.proofs.Math.Logic.{inl, inr}
 use Rattle.meaning.specs.Sheet.{Cells}
-use Rattle.meaning.specs.Kinds.{type_form}
+use Rattle.meaning.specs.Kinds.{TypeRow, type_form}
 use Rattle.meaning.specs.Types.{Ty, ty_form}
 use Rattle.meaning.specs.Check.{Asking, parts, written}
 use Rattle.meaning.specs.Walk.{ret, tick, ◌>>=◌}
 use Rattle.meaning.specs.Laws.Apart.{Low}
-use Rattle.type_rows.specs.Grown.{type_in, ty_in, Grows, grown_row}
+use Rattle.type_rows.specs.Grown.{type_in, ty_in, Grows, row_says, row_low}
 use Rattle.type_rows.specs.Finds.{top, Typed, Halted, Finds, finds_as, finds_of, finds_then, finds_tick, halt_then, halt_tick, typed_ret, type_after}
-use Rattle.type_rows.specs.declared.Found.{Found}
-use Rattle.type_rows.specs.declared.Found.TheVariants.{Done}
 use Rattle.type_rows.specs.declared.Halt.{Halt}
 use Rattle.type_rows.specs.declared.Halt.TheVariants.{Fuel}
+use Rattle.walk.specs.declared.Got.{Got}
 use Rattle.walk.specs.declared.Purse.{Purse}
 use Rattle.type_rows.specs.Both.{halted_as, halted_tick, both_halt, both_finds, type_zero}
 use Rattle.type_rows.specs.declared.parts.Part.{Part}
@@ -57,65 +56,48 @@ module _ {s work : List ℕ} {n r : ℕ} {a : Part} where
   pub consists_star : {p : ℕ} → a ≡ Star p → Consists s work n r a → Starred s work n r p
   consists_star e m = subst (ConsistsBy s work n r) e m.by
 
--- ---- by the row's kind
+-- ---- by what the row says
 
-module _ {s work : List ℕ} {n : ℕ} (g : Grows s work n) (r : ℕ) (c : Cells) (is : c ≡ type_in s work n r) where
-  abbrev of_kind : ℕ → Cells
-  of_kind k = record { kind = k; p = c.p; q = c.q; r = c.r }
-
-  says : (k : ℕ) → c.kind ≡ k → ty_in s work n r ≡ ty_form (type_form (record { kind = k; p = c.p; q = c.q; r = c.r })) (ty_in s work n)
-  says k e = grown_row s work n g r ∙ ap (λ (x : Cells). ty_form (type_form x) (ty_in s work n)) (sym is ∙ ap of_kind e)
-
-  low_is : (k : ℕ) → c.kind ≡ k → Low (type_form (record { kind = k; p = c.p; q = c.q; r = c.r })) r
-  low_is k e = subst (λ (x : Cells). Low (type_form x) r) (sym is ∙ ap of_kind e) (g.low r)
-
+module _ {s work : List ℕ} {n : ℕ} (g : Grows s work n) (r : ℕ) {c : Cells} (is : c ≡ type_in s work n r) where
   -- an atom, from what the row says
-  atom_consists : {τ : Ty} → ty_in s work n r ≡ τ → ((go : Ty → Asking Ty) → parts go τ ≡ tick (go τ)) → Consists s work n r Atom
-  atom_consists e h = record { by = λ go. ap (parts go) e ∙ h go ∙ ap (λ (σ : Ty). tick (go σ)) (sym e) }
+  atom_consists : {t : TypeRow} → t ≡ type_form c → ((go : Ty → Asking Ty) → parts go (ty_form t (ty_in s work n)) ≡ tick (go (ty_form t (ty_in s work n)))) → Consists s work n r Atom
+  atom_consists e h = record { by = λ go. ap (parts go) (row_says g r is e) ∙ h go ∙ ap (λ (σ : Ty). tick (go σ)) (sym (row_says g r is e)) }
 
-  pub text_part : c.kind ≡ 2 → Consists s work n r Atom
+  pub text_part : TypeRow.text ≡ type_form c → Consists s work n r Atom
   unfolding parts ty_form
-  text_part e = atom_consists (says 2 e) (λ go. refl)
+  text_part e = atom_consists e (λ go. refl)
 
-  pub bool_part : c.kind ≡ 3 → Consists s work n r Atom
+  pub bool_part : TypeRow.bool ≡ type_form c → Consists s work n r Atom
   unfolding parts ty_form
-  bool_part e = atom_consists (says 3 e) (λ go. refl)
+  bool_part e = atom_consists e (λ go. refl)
 
-  pub label_part : c.kind ≡ 4 → Consists s work n r Atom
+  pub label_part : {l q : ℕ} → TypeRow.label l q ≡ type_form c → Consists s work n r Atom
   unfolding parts ty_form
-  label_part e = atom_consists (says 4 e) (λ go. refl)
+  label_part e = atom_consists e (λ go. refl)
 
-  pub name_part : c.kind ≡ 8 → Consists s work n r Atom
+  pub name_part : {x : ℕ} → TypeRow.name x ≡ type_form c → Consists s work n r Atom
   unfolding parts ty_form
-  name_part e = atom_consists (says 8 e) (λ go. refl)
+  name_part e = atom_consists e (λ go. refl)
 
-  pub seq_part : c.kind ≡ 5 → Consists s work n r (Pair 5 c.p c.q)
+  pub seq_part : {p q : ℕ} → TypeRow.seq p q ≡ type_form c → Consists s work n r (Pair 5 p q)
   unfolding parts ty_form Low
-  seq_part e = record { by = record { is = λ go. ap (parts go) (says 5 e); kind = inl refl; first = (low_is 5 e).0; second = (low_is 5 e).1 } }
+  seq_part e = let l = row_low g r is e in record { by = record { is = λ go. ap (parts go) (row_says g r is e); kind = inl refl; first = l.0; second = l.1 } }
 
-  pub choice_part : c.kind ≡ 6 → Consists s work n r (Pair 6 c.p c.q)
+  pub choice_part : {p q : ℕ} → TypeRow.choice p q ≡ type_form c → Consists s work n r (Pair 6 p q)
   unfolding parts ty_form Low
-  choice_part e = record { by = record { is = λ go. ap (parts go) (says 6 e); kind = inr refl; first = (low_is 6 e).0; second = (low_is 6 e).1 } }
+  choice_part e = let l = row_low g r is e in record { by = record { is = λ go. ap (parts go) (row_says g r is e); kind = inr refl; first = l.0; second = l.1 } }
 
-  pub star_part : c.kind ≡ 7 → Consists s work n r (Star c.p)
+  pub star_part : {p : ℕ} → TypeRow.star p ≡ type_form c → Consists s work n r (Star p)
   unfolding parts ty_form Low
-  star_part e = record { by = record { is = λ go. ap (parts go) (says 7 e); part = low_is 7 e } }
+  star_part e = record { by = record { is = λ go. ap (parts go) (row_says g r is e); part = row_low g r is e } }
 
-  pub no_part : (c.kind ≡ 2 → ⊥) → (c.kind ≡ 3 → ⊥) → (c.kind ≡ 4 → ⊥) → (c.kind ≡ 8 → ⊥) → (c.kind ≡ 5 → ⊥) → (c.kind ≡ 6 → ⊥) → (c.kind ≡ 7 → ⊥) → Consists s work n r Nothing
+  pub none_part : TypeRow.none ≡ type_form c → Consists s work n r Nothing
   unfolding parts ty_form
-  no_part x2 x3 x4 x8 x5 x6 x7 = go c.kind refl x2 x3 x4 x8 x5 x6 x7
-    where
-      go : (k : ℕ) → c.kind ≡ k → (k ≡ 2 → ⊥) → (k ≡ 3 → ⊥) → (k ≡ 4 → ⊥) → (k ≡ 8 → ⊥) → (k ≡ 5 → ⊥) → (k ≡ 6 → ⊥) → (k ≡ 7 → ⊥) → Consists s work n r Nothing
-      go zero e x2 x3 x4 x8 x5 x6 x7 = record { by = λ f. ap (parts f) (says 0 e) }
-      go (suc zero) e x2 x3 x4 x8 x5 x6 x7 = record { by = λ f. ap (parts f) (says 1 e) }
-      go (suc (suc zero)) e x2 x3 x4 x8 x5 x6 x7 = absurd (x2 refl)
-      go (suc (suc (suc zero))) e x2 x3 x4 x8 x5 x6 x7 = absurd (x3 refl)
-      go (suc (suc (suc (suc zero)))) e x2 x3 x4 x8 x5 x6 x7 = absurd (x4 refl)
-      go (suc (suc (suc (suc (suc zero))))) e x2 x3 x4 x8 x5 x6 x7 = absurd (x5 refl)
-      go (suc (suc (suc (suc (suc (suc zero)))))) e x2 x3 x4 x8 x5 x6 x7 = absurd (x6 refl)
-      go (suc (suc (suc (suc (suc (suc (suc zero))))))) e x2 x3 x4 x8 x5 x6 x7 = absurd (x7 refl)
-      go (suc (suc (suc (suc (suc (suc (suc (suc zero)))))))) e x2 x3 x4 x8 x5 x6 x7 = absurd (x8 refl)
-      go (suc (suc (suc (suc (suc (suc (suc (suc (suc k))))))))) e x2 x3 x4 x8 x5 x6 x7 = record { by = λ f. ap (parts f) (says (suc (suc (suc (suc (suc (suc (suc (suc (suc k))))))))) e) }
+  none_part e = record { by = λ go. ap (parts go) (row_says g r is e) }
+
+  pub empty_part : TypeRow.empty ≡ type_form c → Consists s work n r Nothing
+  unfolding parts ty_form
+  empty_part e = record { by = λ go. ap (parts go) (row_says g r is e) }
 
 -- a row's own unit
 pub parts_fuel : (s : List ℕ) (go : Ty → Asking Ty) (τ : Ty) (left : ℕ) → left < 1 → Halted (parts go τ) s left Fuel
@@ -139,11 +121,11 @@ pair_is k x y at (inr e) = rw e
 
 module _ {s work : List ℕ} {used left : ℕ} (r : ℕ) (go : Ty → Asking Ty) (left' : ℕ) (paid : left' + 1 ≡ left) where
   pub nothing_finds : (p : Purse) → p.left ≡ left' → Grows s work used → parts go (ty_in s work used r) ≡ tick (ret Ty.empty)
-      → Finds (parts go (ty_in s work used r)) s left used work work (Done 0 used p)
+      → Finds (parts go (ty_in s work used r)) s left used work work (Ok (record { root = 0; left = record { used = used; purse = p } }))
   nothing_finds p e g is =
       finds_as is (finds_tick left (omega arith) (finds_as (ap (λ (τ : Ty). ret τ) (sym (type_zero s work used))) (finds_of (typed_ret p.left g (omega arith)))))
 
-  pub atom_finds : {new : List ℕ} {a : Found} → parts go (ty_in s work used r) ≡ tick (go (ty_in s work used r)) → Finds (go (ty_in s work used r)) s left' used work new a
+  pub atom_finds : {new : List ℕ} {a : Result Got Halt} → parts go (ty_in s work used r) ≡ tick (go (ty_in s work used r)) → Finds (go (ty_in s work used r)) s left' used work new a
       → Finds (parts go (ty_in s work used r)) s left used work new a
   atom_finds is m = finds_as is (finds_tick left paid m)
 
@@ -151,7 +133,7 @@ module _ {s work : List ℕ} {used left : ℕ} (r : ℕ) (go : Ty → Asking Ty)
     pub star_halts : {why : Halt} → Halted (parts go (ty_in s work used p)) s left' why → Halted (parts go (ty_in s work used r)) s left why
     star_halts h = halted_as (is.is go) (halted_tick left paid (halt_then (λ x. written (Ty.star x)) h))
 
-    pub star_finds : {mid new : List ℕ} {x n left'' : ℕ} {a : Found} → Typed (parts go (ty_in s work used p)) s left' used work mid x n left''
+    pub star_finds : {mid new : List ℕ} {x n left'' : ℕ} {a : Result Got Halt} → Typed (parts go (ty_in s work used p)) s left' used work mid x n left''
         → Finds (written (ty_form (type_form (record { kind = 7; p = x; q = 0; r = 0 })) (ty_in s mid n))) s left'' n mid new a → Finds (parts go (ty_in s work used r)) s left used work new a
     unfolding ty_form
     star_finds f m = finds_as (is.is go) (finds_tick left paid (finds_then (λ x. written (Ty.star x)) f m))
@@ -169,7 +151,7 @@ module _ {s work : List ℕ} {used left : ℕ} (r : ℕ) (go : Ty → Asking Ty)
       pub pair_halts_2 : {why : Halt} → Halted (parts go' (ty_in s mid n q)) s left'' why → Halted (parts go (ty_in s work used r)) s left why
       pair_halts_2 h = halted_as (is.is go) (halted_tick left paid (both_halt f (λ x y. written (paired k x y)) (halted_as (sym second) h)))
 
-      pub pair_finds : {new end : List ℕ} {y m left''' : ℕ} {a : Found} → Typed (parts go' (ty_in s mid n q)) s left'' n mid new y m left'''
+      pub pair_finds : {new end : List ℕ} {y m left''' : ℕ} {a : Result Got Halt} → Typed (parts go' (ty_in s mid n q)) s left'' n mid new y m left'''
           → Finds (written (ty_form (type_form (record { kind = k; p = x; q = y; r = 0 })) (ty_in s new m))) s left''' m new end a → Finds (parts go (ty_in s work used r)) s left used work end a
       pair_finds {new} {end} {y} {m} {left'''} {a} h w =
           finds_as (is.is go) (finds_tick left paid (both_finds f (λ x y. written (paired k x y)) (subst (λ (v : Asking Ty). Typed v s left'' n mid new y m left''') second h)

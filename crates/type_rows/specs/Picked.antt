@@ -1,5 +1,5 @@
 -- What pick asks, and what it does at an atom.
-use Rattle.std.specs.Prelude.{ℕ, ◌+◌, ◌≤◌, ◌<◌, ◌≡◌, Bool, true, List, length}
+use Rattle.std.specs.Prelude.{ℕ, ◌+◌, ◌≤◌, ◌<◌, ◌≡◌, Bool, true, List, length, Result, Ok}
 use Rattle.std.proofs.Common.{arith, ◌∙◌, eq-eqb, ne_eqb}
 use Rattle.std.proofs.Math.Path.{ap}
 use Rattle.meaning.specs.Sheet.{script_of}
@@ -10,11 +10,10 @@ use Rattle.meaning.specs.Types as types
 use Rattle.meaning.specs.Run.{if_so}
 use Rattle.meaning.specs.Check.{Asking, picked, tests, written}
 use Rattle.meaning.specs.Walk.{ret}
-use Rattle.sheet.specs.Whole.{Whole, whole_shaped}
 use Rattle.type_rows.specs.Grown.{ty_in, Grows}
 use Rattle.type_rows.specs.Finds.{top, Room, Typed, Finds, finds_as, finds_of, typed_ret, room_less, room_after}
-use Rattle.type_rows.specs.declared.Found.{Found}
-use Rattle.type_rows.specs.declared.Found.TheVariants.{Done}
+use Rattle.type_rows.specs.declared.Halt.{Halt}
+use Rattle.walk.specs.declared.Got.{Got}
 use Rattle.walk.specs.declared.Purse.{Purse}
 
 abbrev pub pick_of : List ℕ → ℕ → Ty → Asking Ty
@@ -26,9 +25,6 @@ pub record Picks (s work : List ℕ) (used of left : ℕ) : Type 0 where
   pub inside : of ≤ top s + used
 
 module _ {s work : List ℕ} {used of left : ℕ} (h : Picks s work used of left) where
-  pub picks_whole : Whole s
-  picks_whole = whole_shaped s h.shaped
-
   -- a row's number
   pub picks_small : of < 65536
   picks_small = omega (arith, h.inside, h.room.small)
@@ -52,33 +48,33 @@ module _ (s work : List ℕ) (used label of : ℕ) where
   acting e = ap (λ (t : types.Atom). picked (tests (Test.label label) t) (ty_in s work used of)) e
 
   stays : (p : Purse) → Grows s work used → of ≤ top s + used → pick_of s label (ty_in s work used of) ≡ ret (ty_in s work used of)
-      → Finds (pick_of s label (ty_in s work used of)) s p.left used work work (Done of used p)
+      → Finds (pick_of s label (ty_in s work used of)) s p.left used work work (Ok (record { root = of; left = record { used = used; purse = p } }))
   stays p g h e = finds_as e (finds_of (typed_ret p.left g h))
 
   pub kept_other : (p : Purse) → Grows s work used → of ≤ top s + used → atom_of (names_in (script_of s)) (ty_in s work used of) ≡ types.Atom.no_atom
-      → Finds (pick_of s label (ty_in s work used of)) s p.left used work work (Done of used p)
+      → Finds (pick_of s label (ty_in s work used of)) s p.left used work work (Ok (record { root = of; left = record { used = used; purse = p } }))
   unfolding tests picked
   kept_other p g h e = stays p g h (acting e)
 
   pub kept_label : {n : ℕ} {τ : Ty} (p : Purse) → Grows s work used → of ≤ top s + used → atom_of (names_in (script_of s)) (ty_in s work used of) ≡ types.Atom.label n τ → n ≡ label
-      → Finds (pick_of s label (ty_in s work used of)) s p.left used work work (Done of used p)
+      → Finds (pick_of s label (ty_in s work used of)) s p.left used work work (Ok (record { root = of; left = record { used = used; purse = p } }))
   unfolding tests picked
   kept_label {n} {τ} p g h e is = stays p g h (acting e ∙ ap (λ (b : Bool). picked (if_so b) (ty_in s work used of)) (eq-eqb n label is))
 
   -- picked away
-  pub away_text : {left : ℕ} {new : List ℕ} {a : Found} → atom_of (names_in (script_of s)) (ty_in s work used of) ≡ types.Atom.text
+  pub away_text : {left : ℕ} {new : List ℕ} {a : Result Got Halt} → atom_of (names_in (script_of s)) (ty_in s work used of) ≡ types.Atom.text
       → Finds (written (ty_form (type_form (record { kind = 1; p = 0; q = 0; r = 0 })) (ty_in s work used))) s left used work new a
       → Finds (pick_of s label (ty_in s work used of)) s left used work new a
   unfolding tests picked ty_form
   away_text e m = finds_as (acting e) m
 
-  pub away_bool : {left : ℕ} {new : List ℕ} {a : Found} → atom_of (names_in (script_of s)) (ty_in s work used of) ≡ types.Atom.bool
+  pub away_bool : {left : ℕ} {new : List ℕ} {a : Result Got Halt} → atom_of (names_in (script_of s)) (ty_in s work used of) ≡ types.Atom.bool
       → Finds (written (ty_form (type_form (record { kind = 1; p = 0; q = 0; r = 0 })) (ty_in s work used))) s left used work new a
       → Finds (pick_of s label (ty_in s work used of)) s left used work new a
   unfolding tests picked ty_form
   away_bool e m = finds_as (acting e) m
 
-  pub away_label : {left n : ℕ} {τ : Ty} {new : List ℕ} {a : Found} → atom_of (names_in (script_of s)) (ty_in s work used of) ≡ types.Atom.label n τ → (n ≡ label → ⊥)
+  pub away_label : {left n : ℕ} {τ : Ty} {new : List ℕ} {a : Result Got Halt} → atom_of (names_in (script_of s)) (ty_in s work used of) ≡ types.Atom.label n τ → (n ≡ label → ⊥)
       → Finds (written (ty_form (type_form (record { kind = 1; p = 0; q = 0; r = 0 })) (ty_in s work used))) s left used work new a
       → Finds (pick_of s label (ty_in s work used of)) s left used work new a
   unfolding tests picked ty_form

@@ -2,21 +2,18 @@
 use Prim.Native.Nat.{ℕ, zero, suc, ◌+◌, ◌-◌, ◌*◌, ◌≤◌, ◌<◌}
 use Rattle.std.specs.Prelude.{◌≡◌, true, List, [], ◌∷◌, ◌⊎◌, get_or, length, set, replicate}
 use Rattle.std.proofs.Math.Path.{refl, sym, ap}
-use Rattle.std.proofs.Common.{◌∙◌, inl, inr, length-set, get_or-set_same, get_or-set_other}
+use Rattle.std.proofs.Common.{◌∙◌, inl, inr, length-set, get_or-set_same}
 use Rattle.std.proofs.Math.Decide.{ℕ_discrete, dec_le}
 use native.Mathlib.Omega.{arith}
 use Rattle.std.proofs.lemmas.List.{length-replicate}
 use Rattle.meaning.specs.Tests.{in_table}
 use Rattle.meaning.specs.Sheet.{Cells, row3}
-use Rattle.meaning.specs.Words.{word_at}
 use Rattle.meaning.specs.Kinds.{TypeRow, type_form}
 use Rattle.meaning.specs.Types.{Ty, size, ty_form, ty_at}
 use Rattle.sheet.specs.Whole.{Lies}
-use Rattle.words.specs.Puts.{put_word}
-use Rattle.forest_rows.specs.Table.{put_same, put_other, put_length}
 use Rattle.meaning.specs.Laws.Words.{zeros}
 use Rattle.meaning.specs.Laws.Bools.{either}
-use Rattle.meaning.specs.Laws.Tests.{in_table_lem, table_low, table_high}
+use Rattle.meaning.specs.Laws.Tests.{table_high}
 use Rattle.meaning.specs.Laws.Apart.{Low, Lower, View, v_none, v_empty, v_text, v_bool, v_label, v_seq, v_choice, v_star, v_name, view, ty_at_row}
 
 -- ---- rows of the type written out
@@ -31,20 +28,6 @@ Uses d j = ((d.kind ≡ 4) × (d.q ≡ j)) ⊎ ((((d.kind ≡ 5) ⊎ (d.kind ≡
 -- how many parts a row of kind k has
 abbrev pub parts_of : ℕ → ℕ
 parts_of k = get_or (0 ∷ 0 ∷ 0 ∷ 0 ∷ 1 ∷ 2 ∷ 2 ∷ 1 ∷ []) k 0
-
-pub parts_two : (k : ℕ) → 4 < k → k < 7 → parts_of k ≡ 2
-parts_two k a b = elim (ℕ_discrete k 5) [ yes e ↦ rw e | no e ↦ (let d : k ≡ 6 = omega arith in rw d) ]
-
-pub parts_none : (k : ℕ) → (k ≡ 4 → ⊥) → (k ≡ 5 → ⊥) → (k ≡ 6 → ⊥) → (k ≡ 7 → ⊥) → 0 ≡ parts_of k
-parts_none zero x4 x5 x6 x7 = refl
-parts_none (suc zero) x4 x5 x6 x7 = refl
-parts_none (suc (suc zero)) x4 x5 x6 x7 = refl
-parts_none (suc (suc (suc zero))) x4 x5 x6 x7 = refl
-parts_none (suc (suc (suc (suc zero)))) x4 x5 x6 x7 = absurd (x4 refl)
-parts_none (suc (suc (suc (suc (suc zero))))) x4 x5 x6 x7 = absurd (x5 refl)
-parts_none (suc (suc (suc (suc (suc (suc zero)))))) x4 x5 x6 x7 = absurd (x6 refl)
-parts_none (suc (suc (suc (suc (suc (suc (suc zero))))))) x4 x5 x6 x7 = absurd (x7 refl)
-parts_none (suc (suc (suc (suc (suc (suc (suc (suc k)))))))) x4 x5 x6 x7 = refl
 
 -- row i is written
 pub record Put (old new : List ℕ) (i : ℕ) (c : Cells) : Type 0 where
@@ -63,105 +46,6 @@ pub record Handed (own new from from' : List ℕ) (i : ℕ) (c : Cells) (free : 
   pub pair : (c.kind ≡ 5) ⊎ (c.kind ≡ 6) → ((own_row new i).p ≡ free) × ((own_row new i).q ≡ free - 1) × (get_or from' free 0 ≡ c.p) × (get_or from' (free - 1) 0 ≡ c.q)
   pub star : c.kind ≡ 7 → ((own_row new i).p ≡ free) × (get_or from' free 0 ≡ c.p)
   pub name : c.kind ≡ 8 → (own_row new i).p ≡ c.p
-
--- ---- by the kind of the row
-
-module _ {own new : List ℕ} (from : List ℕ) {i : ℕ} (c : Cells) (free : ℕ) (long : length from ≡ 513) (room : free < 512) where
-  pub handed_label : c.kind ≡ 4 → Put own new i (record { kind = 4; p = c.p; q = free; r = 0 }) → Handed own new from (set from free c.q) i c free
-  handed_label k w = record {
-    own_size = w.size;
-    from_size = length-set from free c.q;
-    others = w.others;
-    kept = λ j l. get_or-set_other from free j c.q 0 (λ z. omega arith);
-    kind = ap (λ d. d.kind) w.here ∙ sym k;
-    label = λ z. (ap (λ d. d.p) w.here, ap (λ d. d.q) w.here, get_or-set_same from free c.q 0 (omega arith));
-    pair = λ z. absurd (elim z [ inl y ↦ omega arith | inr y ↦ omega arith ]);
-    star = λ z. absurd (omega arith);
-    name = λ z. absurd (omega arith);
-  }
-
-  pub handed_star : c.kind ≡ 7 → Put own new i (record { kind = 7; p = free; q = 0; r = 0 }) → Handed own new from (set from free c.p) i c free
-  handed_star k w = record {
-    own_size = w.size;
-    from_size = length-set from free c.p;
-    others = w.others;
-    kept = λ j l. get_or-set_other from free j c.p 0 (λ z. omega arith);
-    kind = ap (λ d. d.kind) w.here ∙ sym k;
-    label = λ z. absurd (omega arith);
-    pair = λ z. absurd (elim z [ inl y ↦ omega arith | inr y ↦ omega arith ]);
-    star = λ z. (ap (λ d. d.p) w.here, get_or-set_same from free c.p 0 (omega arith));
-    name = λ z. absurd (omega arith);
-  }
-
-  pub handed_pair : {k : ℕ} → k ≡ c.kind → (c.kind ≡ 4 → ⊥) → (c.kind ≡ 7 → ⊥) → (c.kind ≡ 8 → ⊥) → 1 ≤ free → Put own new i (record { kind = k; p = free; q = free - 1; r = 0 })
-      → Handed own new from (set (set from free c.p) (free - 1) c.q) i c free
-  handed_pair k x4 x7 x8 m w = record {
-    own_size = w.size;
-    from_size = length-set (set from free c.p) (free - 1) c.q ∙ length-set from free c.p;
-    others = w.others;
-    kept = λ j l. get_or-set_other (set from free c.p) (free - 1) j c.q 0 (λ z. omega arith) ∙ get_or-set_other from free j c.p 0 (λ z. omega arith);
-    kind = ap (λ d. d.kind) w.here ∙ k;
-    label = λ z. absurd (x4 z);
-    pair = λ z. (
-      ap (λ d. d.p) w.here,
-      ap (λ d. d.q) w.here,
-      get_or-set_other (set from free c.p) (free - 1) free c.q 0 (λ z. omega arith) ∙ get_or-set_same from free c.p 0 (omega arith),
-      get_or-set_same (set from free c.p) (free - 1) c.q 0 (omega (arith, length-set from free c.p)),
-    );
-    star = λ z. absurd (x7 z);
-    name = λ z. absurd (x8 z);
-  }
-
-  pub handed_leaf : {k p : ℕ} → k ≡ c.kind → (c.kind ≡ 4 → ⊥) → (c.kind ≡ 5 → ⊥) → (c.kind ≡ 6 → ⊥) → (c.kind ≡ 7 → ⊥) → (c.kind ≡ 8 → p ≡ c.p)
-      → Put own new i (record { kind = k; p = p; q = 0; r = 0 })
-      → Handed own new from from i c free
-  handed_leaf k x4 x5 x6 x7 n w = record {
-    own_size = w.size;
-    from_size = refl;
-    others = w.others;
-    kept = λ j l. refl;
-    kind = ap (λ d. d.kind) w.here ∙ k;
-    label = λ z. absurd (x4 z);
-    pair = λ z. absurd (elim z [ inl y ↦ x5 y | inr y ↦ x6 y ]);
-    star = λ z. absurd (x7 z);
-    name = λ z. ap (λ d. d.p) w.here ∙ n z;
-  }
-
--- three words are a row
-pub put_row : (s : List ℕ) {s1 s2 t : List ℕ} (i kind p q : ℕ) → length s ≡ 3072 → 1 ≤ i → i ≤ 512 → kind < 65536 → p < 65536 → q < 65536
-    → s1 ≡ put_word s (3 * (i - 1)) kind → s2 ≡ put_word s1 (3 * (i - 1) + 1) p → t ≡ put_word s2 (3 * (i - 1) + 2) q → Put s t i (record { kind = kind; p = p; q = q; r = 0 })
-put_row s {s1} {s2} {t} i kind p q l a b lk lp lq e1 e2 e3 = record {
-  size = rw (e3, put_length s2 (3 * (i - 1) + 2) q, e2, put_length s1 (3 * (i - 1) + 1) p, e1) (put_length s (3 * (i - 1)) kind);
-  here = rw (in_table_lem 512 i a b, w0, w1, w2);
-  others = λ k d. elim (either (in_table 512 k)) [
-    | inl h ↦ (let x0 = other (3 * (k - 1)) (λ z. d (omega (arith, table_low 512 k h))) (λ z. omega arith) (λ z. omega arith) in
-        let x1 = other (3 * (k - 1) + 1) (λ z. omega arith) (λ z. d (omega (arith, table_low 512 k h))) (λ z. omega arith) in
-        let x2 = other (3 * (k - 1) + 2) (λ z. omega arith) (λ z. omega arith) (λ z. d (omega (arith, table_low 512 k h))) in let o : 0 + 3 * (k - 1) ≡ 3 * (k - 1) = omega arith in
-        rw (h, o, x0, x1, x2))
-    | inr h ↦ rw h
-  ];
-}
-  where
-    l1 : length s1 ≡ 3072
-    l1 = rw e1 (put_length s (3 * (i - 1)) kind ∙ l)
-
-    l2 : length s2 ≡ 3072
-    l2 = rw e2 (put_length s1 (3 * (i - 1) + 1) p ∙ l1)
-
-    w0 : word_at t (0 + 3 * (i - 1)) ≡ kind
-    w0 = let o : 0 + 3 * (i - 1) ≡ 3 * (i - 1) = omega arith in rw o
-        (rw e3 (put_other s2 (3 * (i - 1) + 2) (3 * (i - 1)) q (λ z. omega arith)
-        ∙ rw e2 (put_other s1 (3 * (i - 1) + 1) (3 * (i - 1)) p (λ z. omega arith) ∙ rw e1 (put_same s (3 * (i - 1)) kind (omega arith) lk))))
-
-    w1 : word_at t (0 + 3 * (i - 1) + 1) ≡ p
-    w1 = let o : 0 + 3 * (i - 1) ≡ 3 * (i - 1) = omega arith in rw o
-        (rw e3 (put_other s2 (3 * (i - 1) + 2) (3 * (i - 1) + 1) q (λ z. omega arith) ∙ rw e2 (put_same s1 (3 * (i - 1) + 1) p (omega (arith, l1)) lp)))
-
-    w2 : word_at t (0 + 3 * (i - 1) + 2) ≡ q
-    w2 = let o : 0 + 3 * (i - 1) ≡ 3 * (i - 1) = omega arith in rw o (rw e3 (put_same s2 (3 * (i - 1) + 2) q (omega (arith, l2)) lq))
-
-    other : (j : ℕ) → (3 * (i - 1) ≡ j → ⊥) → (3 * (i - 1) + 1 ≡ j → ⊥) → (3 * (i - 1) + 2 ≡ j → ⊥) → word_at t j ≡ word_at s j
-    other j x y z = rw e3 (put_other s2 (3 * (i - 1) + 2) j q z ∙ rw e2 (put_other s1 (3 * (i - 1) + 1) j p y ∙ rw e1 (put_other s (3 * (i - 1)) j kind x)))
 
 -- the row d at k says what c says, of parts between lo and k
 pub record Copied (from : List ℕ) (lo k : ℕ) (c d : Cells) : Type 0 where

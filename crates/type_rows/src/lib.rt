@@ -12,76 +12,68 @@ ghost use Rattle.meaning.specs.Kinds.{type_form};
 ghost use Rattle.meaning.specs.Types.{ty_form};
 ghost use Rattle.meaning.specs.Check.{written};
 ghost use Rattle.sheet.specs.Laid.{cells_of};
-ghost use Rattle.sheet.specs.Whole.{Whole};
 ghost use Rattle.type_rows.specs.Grown.{type_in, ty_in, Grows};
 ghost use Rattle.type_rows.specs.Finds.{WriteAsks, Finds, Acts};
+ghost use Rattle.type_rows.specs.declared.Halt.TheVariants.{Fuel};
 
-use sheet::Row;
-use walk::{Purse, Taken};
+use sheet::forms::Ty;
+use sheet::{Row, Sheet};
+use walk::{Concern, Got, Left, Purse, Spent};
 
-// What ends a check's walk besides a type; the purse is what was left. A row is carried with 1 for a query, 2 for a statement, 0 for a
-// declared output.
-#[derive(Clone, Copy)]
+// What ends a check's walk besides a type; the purse is what was left.
+#[derive(Clone, Copy, Debug, PartialEq, Eq)]
 pub enum Halt {
     Fuel,
     Depth(Purse),
-    Wide(usize, usize, Purse),
-    Mismatch(usize, usize, Purse),
-    Outside(usize, usize, Purse),
+    Wide(Concern, Purse),
+    Mismatch(Concern, Purse),
+    Outside(Concern, Purse),
 }
 
-#[derive(Clone, Copy)]
-pub enum Found {
-    Done {
-        root: usize,
-        used: usize,
-        purse: Purse,
-    },
-    Not(Halt),
+impl From<Spent> for Halt {
+    ghost from_gives = { λ _ e. e ≡ Fuel };
+
+    fn from(_spent: Spent) -> Halt {
+        Halt::Fuel
+    }
 }
 
 // Type row `r`.
-pub fn row(s: &[u8], work: &[u8], r: usize) -> Row
-    requires { (Whole s.now) × (r < 65536) }
+pub fn row(s: &Sheet, work: &[u8], r: usize) -> Row
+    requires { r < 65536 }
     ensures { (n : ℕ) → r ≤ (script_of s.now).types + n → cells_of result ≡ type_in s.now work.now n r }
 {
-    let types = sheet::types_of(s);
+    let types = s.types();
     if r <= types {
-        return sheet::type_at(s, r);
+        return s.type_row(r);
     }
     forest_rows::any_row(work, r - types)
 }
 
-// A row is written: one unit.
+// A row is written: one unit. Its kind is the number that stands in the row: a name for it would be turned into that number here.
 pub fn write(
-    s: &[u8],
+    s: &Sheet,
     work: &mut [u8],
-    used: usize,
     kind: usize,
     p: usize,
     q: usize,
-    purse: Purse,
-) -> Found
-    requires { WriteAsks s.now work.old used kind p q purse.left }
+    left: Left,
+) -> Result<Got, Halt>
+    requires { WriteAsks s.now work.old left.used kind p q left.purse.left }
     ensures { Finds (written (ty_form (type_form (record { kind = kind; p = p; q = q; r = 0 }))
-        (ty_in s.now work.old used))) s.now purse.left used work.old work.new
+        (ty_in s.now work.old left.used))) s.now left.purse.left left.used work.old work.new
         result }
 {
-    match purse.take() {
-        Taken::Fuel => Found::Not(Halt::Fuel),
-        Taken::Left(rest) => {
-            let last = forest_rows::push(work, used, kind, p, q, 0);
-            Found::Done {
-                root: sheet::types_of(s) + last,
-                used: last,
-                purse: rest,
-            }
-        }
-    }
+    let purse = left.purse.take()?;
+    let last = forest_rows::push(work, left.used, kind, p, q, 0);
+    Ok(Got {
+        root: s.types() + last,
+        left: Left { used: last, purse },
+    })
 }
 
 // An atom as written: its head, and the content of a labelled one; a name acts as its label row.
-#[derive(Clone, Copy)]
+#[derive(Clone, Copy, Debug, PartialEq, Eq)]
 pub enum Atom {
     Other,
     Text,
@@ -89,21 +81,19 @@ pub enum Atom {
     Label(usize, usize),
 }
 
-pub fn atom_of(s: &[u8], work: &[u8], r: usize) -> Atom
+pub fn atom_of(s: &Sheet, work: &[u8], r: usize) -> Atom
     requires { (shapely s.now ≡ true) × (r < 65536) }
     ensures { (n : ℕ) → Grows s.now work.now n → r ≤ (script_of s.now).types + n
         → Acts s.now work.now n r result }
 {
-    let c = row(s, work, r);
-    let kind = c.kind;
-    match kind {
-        2 => Atom::Text,
-        3 => Atom::Bool,
-        4 => Atom::Label(c.p, c.q),
-        8 => {
-            let n = sheet::type_at(s, sheet::name_at(s, c.p));
-            Atom::Label(n.p, n.q)
+    match row(s, work, r).as_type() {
+        Ty::Text => Atom::Text,
+        Ty::Bool => Atom::Bool,
+        Ty::Label(label, content) => Atom::Label(label, content),
+        Ty::Name(x) => {
+            let named = s.type_row(s.name_row(x));
+            Atom::Label(named.p, named.q)
         }
-        0..=1 | 5..=7 | 9..=65535 => Atom::Other,
+        _ => Atom::Other,
     }
 }

@@ -3,17 +3,18 @@
 ghost use Rattle.std.specs.Prelude.{ℕ, ◌+◌, ◌<◌, ◌≤◌};
 ghost use Rattle.meaning.specs.Sheet.{script_of};
 ghost use Rattle.meaning.specs.Check.{parts};
-ghost use Rattle.sheet.specs.Whole.{Whole};
 ghost use Rattle.type_rows.specs.Grown.{ty_in, Grows};
 ghost use Rattle.type_rows.specs.Finds.{Finds};
 ghost use Rattle.type_rows.specs.Parts.{Consists};
 ghost use Rattle.type_rows.specs.Picked.{Picks, pick_of};
 
-use crate::{Atom, Found, Halt, write};
-use walk::{Purse, Taken};
+use crate::{Atom, Halt, write};
+use sheet::Sheet;
+use sheet::forms::Ty;
+use walk::{Got, Left};
 
 // (), an atom, a sequence or choice (its kind, 5 or 6, and two rows), or a star.
-#[derive(Clone, Copy)]
+#[derive(Clone, Copy, Debug, PartialEq, Eq)]
 pub enum Part {
     Nothing,
     Atom,
@@ -22,97 +23,59 @@ pub enum Part {
 }
 
 // What the type at row `r` consists of.
-pub fn part_of(s: &[u8], work: &[u8], r: usize) -> Part
-    requires { (Whole s.now) × (r < 65536) }
+pub fn part_of(s: &Sheet, work: &[u8], r: usize) -> Part
+    requires { r < 65536 }
     ensures { (n : ℕ) → Grows s.now work.now n → r ≤ (script_of s.now).types + n
         → Consists s.now work.now n r result }
 {
-    let c = crate::row(s, work, r);
-    let kind = c.kind;
-    match kind {
-        2 => Part::Atom,
-        3 => Part::Atom,
-        4 => Part::Atom,
-        8 => Part::Atom,
-        5 => Part::Pair(5, c.p, c.q),
-        6 => Part::Pair(6, c.p, c.q),
-        7 => Part::Star(c.p),
-        0..=1 | 9..=65535 => Part::Nothing,
+    match crate::row(s, work, r).as_type() {
+        Ty::Text => Part::Atom,
+        Ty::Bool => Part::Atom,
+        Ty::Label(_, _) => Part::Atom,
+        Ty::Name(_) => Part::Atom,
+        Ty::Sequence(p, q) => Part::Pair(5, p, q),
+        Ty::Choice(p, q) => Part::Pair(6, p, q),
+        Ty::Star(p) => Part::Star(p),
+        Ty::Nothing => Part::Nothing,
+        Ty::Empty => Part::Nothing,
     }
 }
 
 // An atom under pick: kept, or picked away for one unit.
-fn kept(s: &[u8], work: &mut [u8], used: usize, label: usize, of: usize, purse: Purse) -> Found
-    requires { Picks s.now work.old used of purse.left }
-    ensures { Finds (pick_of s.now label (ty_in s.now work.old used of)) s.now
-        purse.left used work.old work.new result }
+fn kept(s: &Sheet, work: &mut [u8], label: usize, of: usize, left: Left) -> Result<Got, Halt>
+    requires { Picks s.now work.old left.used of left.purse.left }
+    ensures { Finds (pick_of s.now label (ty_in s.now work.old left.used of)) s.now
+        left.purse.left left.used work.old work.new result }
 {
+    let stays = Got { root: of, left };
     match crate::atom_of(s, work, of) {
-        Atom::Label(n, _) => {
-            if n == label {
-                return Found::Done {
-                    root: of,
-                    used,
-                    purse,
-                };
-            }
-            write(s, work, used, 1, 0, 0, purse)
-        }
-        Atom::Other => Found::Done {
-            root: of,
-            used,
-            purse,
-        },
-        Atom::Text => write(s, work, used, 1, 0, 0, purse),
-        Atom::Bool => write(s, work, used, 1, 0, 0, purse),
+        Atom::Other => Ok(stays),
+        Atom::Label(n, _) if n == label => Ok(stays),
+        Atom::Label(_, _) => write(s, work, 1, 0, 0, left),
+        Atom::Text => write(s, work, 1, 0, 0, left),
+        Atom::Bool => write(s, work, 1, 0, 0, left),
     }
 }
 
 // Pick: a unit on arrival at each row, each atom kept or picked away, and each sequence, choice and star rebuilt.
-pub fn picked(
-    s: &[u8],
-    work: &mut [u8],
-    used: usize,
-    label: usize,
-    of: usize,
-    purse: Purse,
-) -> Found
-    requires { Picks s.now work.old used of purse.left }
-    ensures { Finds (parts (pick_of s.now label) (ty_in s.now work.old used of)) s.now
-        purse.left used work.old work.new result }
+pub fn picked(s: &Sheet, work: &mut [u8], label: usize, of: usize, left: Left) -> Result<Got, Halt>
+    requires { Picks s.now work.old left.used of left.purse.left }
+    ensures { Finds (parts (pick_of s.now label) (ty_in s.now work.old left.used of)) s.now
+        left.purse.left left.used work.old work.new result }
 {
-    match purse.take() {
-        Taken::Fuel => Found::Not(Halt::Fuel),
-        Taken::Left(rest) => match part_of(s, work, of) {
-            Part::Nothing => Found::Done {
-                root: 0,
-                used,
-                purse: rest,
-            },
-            Part::Atom => kept(s, work, used, label, of, rest),
-            Part::Star(p) => match picked(s, work, used, label, p, rest) {
-                Found::Not(why) => Found::Not(why),
-                Found::Done {
-                    root,
-                    used: n,
-                    purse: left,
-                } => write(s, work, n, 7, root, 0, left),
-            },
-            Part::Pair(kind, p, q) => match picked(s, work, used, label, p, rest) {
-                Found::Not(why) => Found::Not(why),
-                Found::Done {
-                    root: x,
-                    used: n,
-                    purse: left,
-                } => match picked(s, work, n, label, q, left) {
-                    Found::Not(why) => Found::Not(why),
-                    Found::Done {
-                        root: y,
-                        used: m,
-                        purse: most,
-                    } => write(s, work, m, kind, x, y, most),
-                },
-            },
-        },
+    let purse = left.purse.take()?;
+    let left = Left { purse, ..left };
+    match part_of(s, work, of) {
+        Part::Nothing => Ok(Got { root: 0, left }),
+        Part::Atom => kept(s, work, label, of, left),
+        Part::Star(p) => {
+            let x = picked(s, work, label, p, left)?;
+            write(s, work, 7, x.root, 0, x.left)
+        }
+        Part::Pair(kind, p, q) => {
+            let x = picked(s, work, label, p, left)?;
+            let y = picked(s, work, label, q, x.left)?;
+            write(s, work, kind, x.root, y.root, y.left)
+        }
     }
 }

@@ -1,16 +1,13 @@
 -- The sheet's tables, as a fit and a check borrow them.
-use Rattle.std.specs.Prelude.{ℕ, ◌≤◌, ◌≡◌, true, List}
-use Rattle.std.proofs.Common.{subst, arith}
-use Rattle.meaning.specs.Sheet.{row3, script_of}
+use Rattle.std.specs.Prelude.{ℕ, ◌≡◌, Bool, true, List, Result, Ok}
+use Rattle.meaning.specs.Sheet.{script_of}
 use Rattle.meaning.specs.Shape.{shapely}
-use Rattle.meaning.specs.Laws.Shaped.{few_types}
 use Rattle.meaning.specs.Reply.{Loads}
-use Rattle.sheet.specs.declared.Layout.{Layout}
-use Rattle.sheet.specs.Laid.{Laid}
+use Rattle.sheet.specs.Table.{Table, rows_in, types_in}
 use Rattle.type_heads.specs.Classes.{Classes}
 use Rattle.type_ties.specs.Sound.{sound_of, Made}
-use Rattle.type_ties.specs.declared.Soundness.{Soundness}
-use Rattle.type_ties.specs.declared.Soundness.TheVariants.{Done, Barren, Tie}
+use Rattle.type_ties.specs.declared.Tables.{Tables}
+use Rattle.type_ties.specs.declared.Unsound.{Unsound}
 use Rattle.type_tables.specs.Points.{SheetPoints, Started, sheet_points}
 use Rattle.type_heads.specs.Kin.{Kins}
 
@@ -20,30 +17,24 @@ pub record Lent (s first behind class same kin : List ℕ) : Type 0 where
   pub classes : Classes s class same
   pub kins : Kins (script_of s).type_row (script_of s).types s class kin
 
+abbrev pub LentTables : List ℕ → Tables → Type 0
+LentTables s t = Lent s t.first t.behind t.class t.same t.kin
+
 -- 3, 4, or the tables
-abbrev Offered : List ℕ → List ℕ → List ℕ → List ℕ → List ℕ → List ℕ → Soundness → Type 0
-Offered s first behind class same kin Done = Lent s first behind class same kin
-Offered s first behind class same kin (Barren x) = Unit {0}
-Offered s first behind class same kin (Tie t) = Unit {0}
-
-pub record Judged (s first behind class same kin : List ℕ) (r : Soundness) : Type 0 where
+pub record Judged (s : List ℕ) (t : Tables) (r : Result Unit Unsound) : Type 0 where
   pub loads : Loads s (sound_of r)
-  pub offered : Offered s first behind class same kin r
+  pub offered : r ≡ Ok tt → LentTables s t
 
-pub lent_done : {s first behind class same kin : List ℕ} {r : Soundness} → r ≡ Done → Judged s first behind class same kin r → Lent s first behind class same kin
-lent_done {s} {first} {behind} {class} {same} {kin} e j = subst (Offered s first behind class same kin) e j.offered
+pub lent_done : {s : List ℕ} {t : Tables} {r : Result Unit Unsound} → r ≡ Ok tt → Judged s t r → LentTables s t
+lent_done e j = j.offered e
 
 -- ---- as they are made
 
-module _ {s : List ℕ} {l : Layout} (L : Laid s l) (e : shapely s ≡ true) where
-  pub few_rows : l.types ≤ 512
-  unfolding script_of
-  few_rows = omega (arith, L.types, few_types s e)
+-- the table that the sheet lends
+sheet_kins : {s : List ℕ} {t : Table} {class kin : List ℕ} → t ≡ types_in s → Kins (rows_in t) t.rows s class kin → Kins (script_of s).type_row (script_of s).types s class kin
+unfolding script_of
+sheet_kins is K = rw is at K
 
-  laid_kins : {class kin : List ℕ} → Kins (row3 s l.types_at l.types) l.types s class kin → Kins (script_of s).type_row (script_of s).types s class kin
-  unfolding script_of
-  laid_kins K = rw (L.types_at, L.types) at K
-
-  pub lent_made : {null root old first behind class same kin : List ℕ} → Made s l null root old behind class same → Started null old first 0 l.types
-      → Kins (row3 s l.types_at l.types) l.types s class kin → Lent s first behind class same kin
-  lent_made M o K = record { points = sheet_points L e M.tables M.rooted M.wires o; classes = M.classes; kins = laid_kins K }
+pub lent_made : {s : List ℕ} → shapely s ≡ true → {null root : List Bool} {t : Tables} {first kin : List ℕ} {n : ℕ} {rows : Table} → Made s null root t → n ≡ (script_of s).types
+    → Started null t.first first 0 n → rows ≡ types_in s → Kins (rows_in rows) rows.rows s t.class kin → Lent s first t.behind t.class t.same kin
+lent_made e M z o is K = record { points = sheet_points e M.tables M.rooted M.wires (rw z at o); classes = M.classes; kins = sheet_kins is K }

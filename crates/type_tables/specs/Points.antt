@@ -1,10 +1,9 @@
 -- Where each row begins, End among it: a set of places for each row; and what stands behind the places of each type asked about. By the tables of `places`.
-use Rattle.std.specs.Prelude.{ℕ, ◌+◌, ◌≤◌, ◌<◌, ◌≡◌, refl, true, false, ◌&&◌, ◌||◌, List, ◌⊎◌, eqb, ltb, length, set, replicate}
-use Rattle.std.proofs.Common.{sym, ◌∙◌, ap, inl, inr, arith, eq-eqb, ne_eqb, eqb-true, lt-ltb, ltb-true}
-use Rattle.std.proofs.Math.Decide.{ℕ_discrete}
+use Rattle.std.specs.Prelude.{ℕ, ◌≤◌, ◌<◌, ◌≡◌, refl, Bool, true, false, ◌&&◌, ◌||◌, List, ◌⊎◌, eqb, ltb, length, set, replicate}
+use Rattle.std.proofs.Common.{sym, ◌∙◌, inl, inr, arith, eq-eqb, ne_eqb, eqb-true, lt-ltb, ltb-true}
 use Rattle.std.proofs.lemmas.List.{length-replicate, get_or-replicate}
 use Rattle.meaning.specs.Tests.{in_table, some}
-use Rattle.meaning.specs.Sheet.{Cells, row3, script_of}
+use Rattle.meaning.specs.Sheet.{Cells, script_of}
 use Rattle.meaning.specs.Places.{nullable, first, start}
 use Rattle.meaning.specs.Shape.{shapely}
 use Rattle.meaning.specs.Laws.Bools.{or_left, or_right, and_left, and_right, and_both, and_false, either, not_both}
@@ -14,34 +13,18 @@ use Rattle.meaning.specs.Laws.Wired.{Wired, ends}
 use Rattle.meaning.specs.Laws.Apart.{Side, side_lower}
 use Rattle.bits.specs.Sets.{in_set}
 use Rattle.type_barren.specs.Flags.{flag, flag_set, flag_kept, unset}
-use Rattle.sheet.specs.declared.Layout.{Layout}
-use Rattle.sheet.specs.Laid.{Laid}
-use Rattle.type_places.specs.Tables.{row_form, row_model, set_of, Rows, Tables, Ended, Free, Wires}
+use Rattle.type_places.specs.Tables.{row_form, row_model, set_of, Rows, Tables, Free, Wires}
 use Rattle.type_models.specs.Roots.{is_root, Rooted, Marked, held_root}
-use Rattle.type_places.specs.Sheets.{laid_tables, laid_wires}
 use Rattle.type_rows.specs.Writing.{own_row, Blank}
 
 -- End stands where the rows low + 1 to n begin, if they may be empty
-pub record Started (null old new : List ℕ) (low n : ℕ) : Type 0 where
+pub record Started (null : List Bool) (old new : List ℕ) (low n : ℕ) : Type 0 where
   pub size : length new ≡ length old
   pub into : (r : ℕ) → low < r → r ≤ n → (b : ℕ) → b < 576 → in_set new r b ≡ in_set old r b || flag null r && eqb 0 b
   pub others : (r : ℕ) → n < r → (b : ℕ) → b < 576 → in_set new r b ≡ in_set old r b
 
-pub started_none : (null old : List ℕ) (low : ℕ) → Started null old old low low
-started_none null old low = record { size = refl; into = λ r l h. absurd (omega arith); others = λ r l b h. refl }
-
-pub started_more : {null old mid new : List ℕ} {low n : ℕ} → Started null old mid low n → Ended mid new null (n + 1) → Started null old new low (n + 1)
-started_more {null} {n = n} w e = record {
-  size = e.size ∙ w.size;
-  into = λ r l h b k. elim (ℕ_discrete r (n + 1)) [
-    | yes z ↦ rw z (e.into b k ∙ ap (λ x. x || flag null (n + 1) && eqb 0 b) (w.others (n + 1) (omega arith) b k))
-    | no z ↦ e.others r b z k ∙ w.into r l (omega arith) b k
-  ];
-  others = λ r l b k. e.others r b (λ z. omega arith) k ∙ w.others r (omega arith) b k;
-}
-
 -- then each row's set is what may stand where its type begins
-pub begun : {row : ℕ → Cells} {low n : ℕ} {null old new : List ℕ} → Tables row n null old → Started null old new low n → (r : ℕ) → in_table n r ≡ true → low < r → (b : ℕ)
+pub begun : {row : ℕ → Cells} {low n : ℕ} {null : List Bool} {old new : List ℕ} → Tables row n null old → Started null old new low n → (r : ℕ) → in_table n r ≡ true → low < r → (b : ℕ)
     → set_of new r b ≡ start (row_model row r) b
 begun {row} {n = n} {null} {old} {new} t w r h l b = elim (either (ltb b 576)) [
   | inl z ↦ (let o : in_set old r b ≡ first (row_model row r) b = rw z at (t.begin r h b) in rw z (w.into r l (table_high n r h) b (ltb-true b 576 z) ∙ rw (o, t.empty r h)))
@@ -57,15 +40,12 @@ pub record SheetPoints (s opens nexts : List ℕ) : Type 0 where
   pub begins : (r : ℕ) → in_table (script_of s).types r ≡ true → (b : ℕ) → set_of opens r b ≡ start (row_model (script_of s).type_row r) b
   pub roots : (r : ℕ) → in_table (script_of s).types r ≡ true → is_root s r ≡ true → Wired (set_of nexts) (row_model (script_of s).type_row r) ends
 
-module _ {s : List ℕ} {l : Layout} (L : Laid s l) (e : shapely s ≡ true) where
-  pub sheet_points : {null root old opens nexts : List ℕ} → Tables (row3 s l.types_at l.types) l.types null old → Rooted s root
-      → Wires (row3 s l.types_at l.types) root nexts l.types → Started null old opens 0 l.types → SheetPoints s opens nexts
-  unfolding script_of
-  sheet_points t g w o = record {
-    begins = λ r h. begun (laid_tables L t) (rw L.types at o) r h (table_low (script_of s).types r h);
-    roots = λ r h k. (laid_wires L w).wired r (table_low (script_of s).types r h) (omega (arith, table_high (script_of s).types r h, L.types))
-        (g.at r (omega (arith, table_high (script_of s).types r h, few_types s e)) ∙ k);
-  }
+pub sheet_points : {s : List ℕ} → shapely s ≡ true → {null root : List Bool} {old opens nexts : List ℕ} → Tables (script_of s).type_row (script_of s).types null old → Rooted s root
+    → Wires (script_of s).type_row root nexts (script_of s).types → Started null old opens 0 (script_of s).types → SheetPoints s opens nexts
+sheet_points {s} e t g w o = record {
+  begins = λ r h. begun t o r h (table_low (script_of s).types r h);
+  roots = λ r h k. w.wired r (table_low (script_of s).types r h) (table_high (script_of s).types r h) (g.at r (omega (arith, table_high (script_of s).types r h, few_types s e)) ∙ k);
+}
 
 -- ---- those of a type written out
 
@@ -82,16 +62,16 @@ pub record OwnPoints (own first behind : List ℕ) : Type 0 where
   pub contents : (i : ℕ) → (own_row own i).kind ≡ 4 → Wired (set_of behind) (row_model (own_row own) (own_row own i).q) ends
 
 -- all flags are set
-pub all_set : (i : ℕ) → i < 513 → flag (replicate 513 1) i ≡ true
-all_set i l = ap (λ v. eqb v 1) (get_or-replicate 513 i 1 0 l)
+pub all_set : (i : ℕ) → i < 513 → flag (replicate 513 true) i ≡ true
+all_set i l = get_or-replicate 513 i true false l
 
 -- the roots: row 512 and the contents
-abbrev pub topped : List ℕ
-topped = set (replicate 513 0) 512 1
+abbrev pub topped : List Bool
+topped = set (replicate 513 false) 512 true
 
-module _ {row : ℕ → Cells} (R : Rows row 512) (A : Apart row) {root : List ℕ} (m : Marked topped root (λ y. some (held_root row y) 512)) where
+module _ {row : ℕ → Cells} (R : Rows row 512) (A : Apart row) {root : List Bool} (m : Marked topped root (λ y. some (held_root row y) 512)) where
   pub own_free : Free row root 512
-  own_free i j l h x = m.at j (omega (arith, low)) ∙ rw (flag_kept (replicate 513 0) 512 1 j (λ z. omega (arith, low)), unset 513 j) (none (either (some (held_root row j) 512)))
+  own_free i j l h x = m.at j (omega (arith, low)) ∙ rw (flag_kept (replicate 513 false) 512 true j (λ z. omega (arith, low)), unset 513 j) (none (either (some (held_root row j) 512)))
     where
       low : j < i
       low = side_lower (row_form row i) i j (R.lower i) x
@@ -103,14 +83,15 @@ module _ {row : ℕ → Cells} (R : Rows row 512) (A : Apart row) {root : List �
           (eqb-true (row k.0).q j (and_right (eqb (row k.0).kind 4) (eqb (row k.0).q j) k.3)))
 
   pub top_root : flag root 512 ≡ true
-  top_root = m.at 512 (omega arith) ∙ or_left (some (held_root row 512) 512) (flag_set (replicate 513 0) 512 1 (omega (arith, length-replicate {A = ℕ} 513 0)))
+  top_root = m.at 512 (omega arith) ∙ or_left (some (held_root row 512) 512) (flag_set (replicate 513 false) 512 true (omega (arith, length-replicate {A = Bool} 513 false)))
 
   pub content_root : (i : ℕ) → (row i).kind ≡ 4 → flag root (row i).q ≡ true
   content_root i k = let h = A.label i k in m.at (row i).q (omega (arith, table_high 512 (row i).q (A.content i k)))
       ∙ or_right (flag topped (row i).q) (some_at (held_root row (row i).q) 512 i (table_low 512 i h) (table_high 512 i h)
       (and_both (eqb (row i).kind 4) (eqb (row i).q (row i).q) (eq-eqb (row i).kind 4 k) (eq-eqb (row i).q (row i).q refl)))
 
-pub own_points : {own root null old first behind : List ℕ} {low : ℕ} → Rows (own_row own) 512 → Apart (own_row own) → Blank own low → Marked topped root (λ y. some (held_root (own_row own) y) 512)
+pub own_points : {own : List ℕ} {root null : List Bool} {old first behind : List ℕ} {low : ℕ} → Rows (own_row own) 512 → Apart (own_row own) → Blank own low
+    → Marked topped root (λ y. some (held_root (own_row own) y) 512)
     → Tables (own_row own) 512 null old → Wires (own_row own) root behind 512 → Started null old first low 512 → OwnPoints own first behind
 own_points {own} R A n m t w o = record {
   begins = begun t o 512 refl n.few;

@@ -3,49 +3,32 @@
 
 pub mod points;
 
-ghost use Rattle.std.specs.Prelude.{◌≡◌, true, replicate};
+ghost use Rattle.std.specs.Prelude.{◌≡◌, true};
 ghost use Rattle.meaning.specs.Shape.{shapely};
-ghost use Rattle.sheet.specs.Laid.{Laid};
-ghost use Rattle.bits.specs.Sets.{Clear};
+ghost use Rattle.type_ties.specs.Sound.{Empty};
 ghost use Rattle.type_tables.specs.Lent.{Judged};
 
-use bits::{ROWS, Sets};
-use sheet::Layout;
-use type_heads::Leads;
-use type_heads::kin::Kin;
-use type_ties::Soundness;
+use bits::ROWS;
+use sheet::Sheet;
+pub use type_ties::Tables;
+use type_ties::Unsound;
 
-// Barren, then Tie; else the tables: what may stand where each row begins (`first`) and behind each place (`behind`), End as place 0;
-// the lowest place of each head (`class`), the set of all
-// that have it (`same`), and for each place the number of that set (`kin`).
-pub fn judge(
-    s: &[u8],
-    l: Layout,
-    first: &mut Sets,
-    behind: &mut Sets,
-    class: &mut Leads,
-    same: &mut Sets,
-    kin: &mut Kin,
-) -> Soundness
+// Barren, then Tie; else the tables.
+pub fn judge(s: &Sheet, tables: &mut Tables) -> Result<(), Unsound>
     requires s_value { shapely s.now ≡ true }
-    requires laid { Laid s.now l }
-    requires clear { Clear first.old × Clear behind.old × Clear same.old }
-    requires class_value { (class.old ≡ replicate 1026 0) × (kin.old ≡ replicate 576 0) }
-    ensures { Judged s.now first.new behind.new class.new same.new
-        kin.new result }
+    requires empty { Empty tables.old }
+    ensures { Judged s.now tables.new result }
 {
-    let x = type_barren::barren(s, l);
-    if x != 0 {
-        return Soundness::Barren(x);
+    if let Some(x) = type_barren::barren(s) {
+        return Err(Unsound::Barren(x));
     }
-    let mut null = [0u8; ROWS];
-    let mut root = [0u8; ROWS];
-    type_ties::make(s, l, &mut null, &mut root, first, behind, class, same);
-    let t = type_ties::tie_in(s, l, &root, first, behind, class, same);
-    if t.row != 0 {
-        return Soundness::Tie(t);
+    let mut null = [false; ROWS];
+    let mut root = [false; ROWS];
+    type_ties::make(s, &mut null, &mut root, tables);
+    if let Some(t) = type_ties::tie_in(s, &root, tables) {
+        return Err(Unsound::Tie(t));
     }
-    crate::points::starts(0, l.types, &null, first);
-    type_heads::kin::kins(s, l, s, l.types_at, l.types, 0, class, kin);
-    Soundness::Done
+    crate::points::starts(0, s.types(), &null, &mut tables.first);
+    type_heads::kin::kins(s, &s.type_table(), 0, &tables.class, &mut tables.kin);
+    Ok(())
 }

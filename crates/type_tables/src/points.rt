@@ -1,5 +1,5 @@
 // The points of types: what may stand where each row begins, and what behind each place, End as place 0; of a type written out.
-ghost use Rattle.std.specs.Prelude.{◌≡◌, ◌≤◌, length};
+ghost use Rattle.std.specs.Prelude.{◌≤◌};
 ghost use Rattle.sheet.specs.Whole.{Lies};
 ghost use Rattle.type_places.specs.Tables.{Rows};
 ghost use Rattle.bits.specs.Sets.{Clear};
@@ -7,17 +7,15 @@ ghost use Rattle.type_rows.specs.Writing.{own_row, Blank};
 ghost use Rattle.type_tables.specs.Points.{Started, OwnPoints, Apart};
 
 use bits::{Flags, ROWS, Sets};
+use sheet::TypeTable;
 
 // End stands where each row above `low`, up to row `n`, that may be empty begins.
 pub fn starts(low: usize, n: usize, null: &Flags, first: &mut Sets)
-    requires low_le_n { (low ≤ n) × (n ≤ 512) }
-    requires first_len { length first.old ≡ 4617 }
+    requires { (low ≤ n) × (n ≤ 512) }
     ensures { Started null.now first.old first.new low n }
 {
-    let mut i = low;
-    while i < n {
+    for i in low..n {
         type_places::end(null, i + 1, first);
-        i += 1;
     }
 }
 
@@ -29,11 +27,12 @@ pub fn of_own(own: &[u8], low: usize, first: &mut Sets, behind: &mut Sets)
     requires clear { Clear first.old × Clear behind.old }
     ensures { OwnPoints own.now first.new behind.new }
 {
-    let mut null = [1u8; ROWS];
-    let mut root = [0u8; ROWS];
-    root[512] = 1;
-    type_models::content_roots(own, 0, 512, low, &mut root);
-    type_places::firsts(own, 0, 512, low, &mut null, first);
-    type_places::behinds(own, 0, 512, low, 512, &root, &null, first, behind);
+    let rows = TypeTable::of(own, 0, 512);
+    let mut null = [true; ROWS];
+    let mut root = [false; ROWS];
+    root[512] = true;
+    type_models::content_roots(&rows, low, &mut root);
+    type_places::firsts(&rows, low, &mut null, first);
+    type_places::behinds(&rows, low, 512, &root, &null, first, behind);
     starts(low, 512, &null, first);
 }

@@ -1,5 +1,5 @@
 -- Ties point by point. At one point: a place, the places of its head by their class, the lowest two. Over all points: the lower of two, row by row.
-use Rattle.std.specs.Prelude.{ℕ, ◌+◌, ◌≤◌, ◌<◌, ◌≡◌, refl, true, List, ◌⊎◌, ltb, get_or}
+use Rattle.std.specs.Prelude.{ℕ, ◌+◌, ◌≤◌, ◌<◌, ◌≡◌, refl, Bool, true, List, ◌⊎◌, ltb, get_or, Option, Some, None}
 use Rattle.std.proofs.Common.{sym, ◌∙◌, inl, inr, arith, eqb-true, eq-eqb, lt-ltb}
 use Rattle.std.proofs.Math.Decide.{dec_lt, ℕ_discrete}
 use Rattle.meaning.specs.Tests.{in_table}
@@ -8,8 +8,6 @@ use Rattle.meaning.specs.Shape.{shapely}
 use Rattle.meaning.specs.Places.{Set}
 use Rattle.meaning.specs.Laws.Bools.{and_left, and_right, and_both, not_both}
 use Rattle.meaning.specs.Laws.Tests.{in_table_lem, table_low, table_high}
-use Rattle.sheet.specs.declared.Layout.{Layout}
-use Rattle.sheet.specs.Laid.{Laid}
 use Rattle.bits.specs.Sets.{in_set, in_both, LowestBoth}
 use Rattle.bits.specs.Counts.{count_to, count_single, count_two}
 use Rattle.type_barren.specs.Flags.{flag}
@@ -19,9 +17,6 @@ use Rattle.meaning.specs.Laws.Apart.{PlaceKind}
 use Rattle.type_ties.specs.declared.Tied.{Tied}
 use Rattle.type_heads.specs.Heads.{head_number, head_place}
 use Rattle.type_heads.specs.Classes.{Classes}
-
-abbrev pub no_tie : Tied
-no_tie = record { row = 0; rival = 0 }
 
 -- at a point whose set is P both a and b may stand, and they have one head
 pub record PointTie (s : List ℕ) (P : Set) (a b : ℕ) : Type 0 where
@@ -33,17 +28,27 @@ pub record PointTie (s : List ℕ) (P : Set) (a b : ℕ) : Type 0 where
   pub head : head_number s a ≡ head_number s b
   pub small : head_number s a < 1026
 
--- r is none, and i has no rival at the point; or r is the lowest of i's head there, with its lowest rival
-pub record OfPlace (s : List ℕ) (P : Set) (i : ℕ) (r : Tied) : Type 0 where
-  pub none : r.row ≡ 0 → (b : ℕ) → PointTie s P i b → ⊥
-  pub some : (r.row ≡ 0 → ⊥) → (r.row ≤ i) × PointTie s P r.row r.rival × ((b : ℕ) → PointTie s P r.row b → r.rival ≤ b)
+-- i has no rival at the point; or t is the lowest of i's head there, with its lowest rival
+pub record OfPlace (s : List ℕ) (P : Set) (i : ℕ) (r : Option Tied) : Type 0 where
+  pub none : r ≡ None → (b : ℕ) → PointTie s P i b → ⊥
+  pub some : (t : Tied) → r ≡ Some t → (t.row ≤ i) × PointTie s P t.row t.rival × ((b : ℕ) → PointTie s P t.row b → t.rival ≤ b)
 
--- r is the lowest pair of a relation, by the row and then by the rival; row 0 where there is none
-pub record Least (R : ℕ → ℕ → Type 0) (r : Tied) : Type 0 where
-  pub none : r.row ≡ 0 → (a b : ℕ) → R a b → ⊥
-  pub some : (r.row ≡ 0 → ⊥) → R r.row r.rival
-  pub low : (a b : ℕ) → R a b → r.row ≤ a
-  pub rival : (b : ℕ) → R r.row b → r.rival ≤ b
+-- t is the lowest pair of a relation, by the row and then by the rival
+pub record Lowest (R : ℕ → ℕ → Type 0) (t : Tied) : Type 0 where
+  pub is : R t.row t.rival
+  pub low : (a b : ℕ) → R a b → t.row ≤ a
+  pub rival : (b : ℕ) → R t.row b → t.rival ≤ b
+
+-- the lowest, or none where there is none
+pub record Least (R : ℕ → ℕ → Type 0) (r : Option Tied) : Type 0 where
+  pub none : r ≡ None → (a b : ℕ) → R a b → ⊥
+  pub some : (t : Tied) → r ≡ Some t → Lowest R t
+
+pub least_none : {R : ℕ → ℕ → Type 0} → ((a b : ℕ) → R a b → ⊥) → Least R None
+least_none n = record { none = λ z. n; some = λ t z. absurd cc }
+
+pub least_some : {R : ℕ → ℕ → Type 0} {t : Tied} → Lowest R t → Least R (Some t)
+least_some {R} {t} f = record { none = λ z. absurd cc; some = λ u z. let e : t ≡ u = cc in rw e at f }
 
 -- ---- one place at a point
 
@@ -58,8 +63,8 @@ module _ (s : List ℕ) (e : shapely s ≡ true) where
   room b h = omega (arith, table_high (script_of s).types b h, few_types s e)
 
   module _ {class same : List ℕ} (C : Classes s class same) (t : List ℕ) (k i : ℕ) where
-    pub of_none : 1026 ≤ head_number s i → OfPlace s (set_of t k) i no_tie
-    of_none h = record { none = λ z b p. omega (arith, p.small); some = λ z. absurd (z refl) }
+    pub of_none : 1026 ≤ head_number s i → OfPlace s (set_of t k) i None
+    of_none h = record { none = λ z b p. omega (arith, p.small); some = λ u z. absurd cc }
 
     module _ (h : head_number s i < 1026) where
       -- a place of i's head that is in the set
@@ -71,33 +76,18 @@ module _ (s : List ℕ) (e : shapely s ≡ true) where
           let w = sym (C.members (head_number s i) h b l) ∙ and_right (in_set t k b) _ p in
           (and_left (in_table (script_of s).types b) _ w, eqb-true (head_number s b) (head_number s i) (and_right (in_table (script_of s).types b) _ w))
 
-      pub of_single : count_to (in_both t k same (get_or class (head_number s i) 0)) 576 < 2 → OfPlace s (set_of t k) i no_tie
+      pub of_single : count_to (in_both t k same (get_or class (head_number s i) 0)) 576 < 2 → OfPlace s (set_of t k) i None
       of_single n = record {
         none = λ z b p. p.ne (count_single (in_both t k same (get_or class (head_number s i) 0)) 576 n i b (room i p.a_row) (room b p.b_row)
             (member i p.a_row refl (in_set_lem t k i p.a_in)) (member b p.b_row (sym p.head) (in_set_lem t k b p.b_in)));
-        some = λ z. absurd (z refl);
+        some = λ u z. absurd cc;
       }
 
       pub of_two : in_set t k i ≡ true → {row rival : ℕ} → LowestBoth t k same (get_or class (head_number s i) 0) 0 row → LowestBoth t k same (get_or class (head_number s i) 0) (row + 1) rival
-          → 2 ≤ count_to (in_both t k same (get_or class (head_number s i) 0)) 576 → OfPlace s (set_of t k) i (record { row = row; rival = rival })
+          → 2 ≤ count_to (in_both t k same (get_or class (head_number s i) 0)) 576 → OfPlace s (set_of t k) i (Some (record { row = row; rival = rival }))
       of_two p {row} {rival} A B n = record {
-        none = λ z b q. omega (arith, table_low (script_of s).types row x.0);
-        some = λ z. (
-          first,
-          record {
-            a_row = x.0;
-            b_row = y.0;
-            ne = λ w. omega (arith, d.0);
-            a_in = set_in t k row small (and_left (in_set t k row) _ (A.here small));
-            b_in = set_in t k rival d.1 (and_left (in_set t k rival) _ (B.here d.1));
-            head = x.1 ∙ sym y.1;
-            small = rw x.1 h;
-          },
-          (λ b q. elim (dec_lt b rival) [
-            | yes l ↦ absurd (between b q l)
-            | no l ↦ omega arith
-          ]),
-        );
+        none = λ z. absurd cc;
+        some = λ u z. let e : row ≡ u.row = cc in let f : rival ≡ u.rival = cc in rw (e, f) at found;
       }
         where
           d : (row < rival) × (rival < 576)
@@ -135,6 +125,21 @@ module _ (s : List ℕ) (e : shapely s ≡ true) where
                 | no w ↦ not_both m (B.below b (omega (arith, q.ne)) l)
               ]
 
+          found : (row ≤ i) × PointTie s (set_of t k) row rival × ((b : ℕ) → PointTie s (set_of t k) row b → rival ≤ b)
+          found = (
+            first,
+            record {
+              a_row = x.0;
+              b_row = y.0;
+              ne = λ w. omega (arith, d.0);
+              a_in = set_in t k row small (and_left (in_set t k row) _ (A.here small));
+              b_in = set_in t k rival d.1 (and_left (in_set t k rival) _ (B.here d.1));
+              head = x.1 ∙ sym y.1;
+              small = rw x.1 h;
+            },
+            (λ b q. elim (dec_lt b rival) [ yes l ↦ absurd (between b q l) | no l ↦ omega arith ]),
+          )
+
 -- ---- the places of a point, one after another
 
 -- no place below i is tied at the point
@@ -142,121 +147,93 @@ pub record NoneBelow (s : List ℕ) (P : Set) (i : ℕ) : Type 0 where
   pub at : (a b : ℕ) → a < i → PointTie s P a b → ⊥
 
 module _ (s : List ℕ) (t : List ℕ) (k : ℕ) where
-  skipped : {from i : ℕ} → LowestBoth t k t k from i → (a : ℕ) → from ≤ a → a < i → in_set t k a ≡ true → ⊥
-  skipped f a p q z = not_both (and_both (in_set t k a) (in_set t k a) z z) (f.below a p q)
-
-  pub lowest_in : {from i : ℕ} → LowestBoth t k t k from i → i < 576 → in_set t k i ≡ true
-  lowest_in {i = i} f l = and_left (in_set t k i) (in_set t k i) (f.here l)
-
-  pub lowest_from : {from i : ℕ} → LowestBoth t k t k from i → from ≤ 576 → from ≤ i
-  lowest_from {i = i} f l = elim (dec_lt i 576) [ yes d ↦ f.onward d | no d ↦ omega arith ]
-
-  pub below_none : {i : ℕ} → LowestBoth t k t k 1 i → NoneBelow s (set_of t k) i
-  below_none f = record { at = λ a b l p. skipped f a (table_low (script_of s).types a p.a_row) l (in_set_lem t k a p.a_in) }
-
-  pub below_more : {i n : ℕ} {r : Tied} → NoneBelow s (set_of t k) i → OfPlace s (set_of t k) i r → r.row ≡ 0 → LowestBoth t k t k (i + 1) n → NoneBelow s (set_of t k) n
-  below_more {i} w o z f = record {
-    at = λ a b l p. elim (dec_lt a i) [
-      | yes d ↦ w.at a b d p
-      | no d ↦ elim (ℕ_discrete a i) [ yes y ↦ o.none z b (rw y at p) | no y ↦ skipped f a (omega arith) l (in_set_lem t k a p.a_in) ]
-    ];
-  }
-
-  pub first_here : {i : ℕ} {r : Tied} → NoneBelow s (set_of t k) i → OfPlace s (set_of t k) i r → (r.row ≡ 0 → ⊥) → Least (PointTie s (set_of t k)) r
-  first_here {i} {r} w o n = let x = o.some n in record {
-    none = λ z. absurd (n z);
-    some = λ z. x.1;
-    low = λ a b p. elim (dec_lt a r.row) [ yes l ↦ absurd (w.at a b (omega (arith, x.0)) p) | no l ↦ omega arith ];
+  pub first_here : {i : ℕ} {u : Tied} → NoneBelow s (set_of t k) i → OfPlace s (set_of t k) i (Some u) → Least (PointTie s (set_of t k)) (Some u)
+  first_here {i} {u} w o = let x = o.some u refl in least_some (record {
+    is = x.1;
+    low = λ a b p. elim (dec_lt a u.row) [ yes l ↦ absurd (w.at a b (omega (arith, x.0)) p) | no l ↦ omega arith ];
     rival = x.2;
-  }
-
-  pub none_here : shapely s ≡ true → {i : ℕ} → 576 ≤ i → NoneBelow s (set_of t k) i → Least (PointTie s (set_of t k)) no_tie
-  none_here e l w = record {
-    none = λ z a b p. w.at a b (omega (arith, room s e a p.a_row)) p;
-    some = λ z. absurd (z refl);
-    low = λ a b p. omega arith;
-    rival = λ b p. omega arith;
-  }
+  })
 
 -- ---- the lower of two
 
-pub data Lower (best found r : Tied) : Type 0 where
-  no_found : found.row ≡ 0 → r ≡ best → Lower best found r
-  no_best : best.row ≡ 0 → r ≡ found → Lower best found r
-  found_row : (found.row ≡ 0 → ⊥) → found.row < best.row → r ≡ found → Lower best found r
-  best_row : (best.row ≡ 0 → ⊥) → best.row < found.row → r ≡ best → Lower best found r
-  found_rival : (found.row ≡ 0 → ⊥) → found.row ≡ best.row → found.rival < best.rival → r ≡ found → Lower best found r
-  best_rival : (best.row ≡ 0 → ⊥) → found.row ≡ best.row → best.rival ≤ found.rival → r ≡ best → Lower best found r
+-- by the row, then by the rival
+abbrev pub Before : Tied → Tied → Type 0
+Before a b = (a.row < b.row) ⊎ (a.row ≡ b.row) × (a.rival < b.rival)
 
-module _ {R Q : ℕ → ℕ → Type 0} {best found : Tied} (f : Least R best) (g : Least Q found) where
-  pub least_lower : {r : Tied} → Lower best found r → Least (λ a b. R a b ⊎ Q a b) r
+pub data Lower (best found r : Option Tied) : Type 0 where
+  no_found : found ≡ None → r ≡ best → Lower best found r
+  no_best : best ≡ None → r ≡ found → Lower best found r
+  found_first : {b f : Tied} → best ≡ Some b → found ≡ Some f → Before f b → r ≡ found → Lower best found r
+  best_first : {b f : Tied} → best ≡ Some b → found ≡ Some f → (Before f b → ⊥) → r ≡ best → Lower best found r
+
+module _ {R Q : ℕ → ℕ → Type 0} {best found : Option Tied} (f : Least R best) (g : Least Q found) where
+  pub least_lower : {r : Option Tied} → Lower best found r → Least (λ a b. R a b ⊎ Q a b) r
   least_lower (no_found z e) = rw e (record {
     none = λ w a b x. elim x [ inl y ↦ f.none w a b y | inr y ↦ g.none z a b y ];
-    some = λ w. inl (f.some w);
-    low = λ a b x. elim x [ inl y ↦ f.low a b y | inr y ↦ absurd (g.none z a b y) ];
-    rival = λ b x. elim x [ inl y ↦ f.rival b y | inr y ↦ absurd (g.none z _ b y) ];
+    some = λ t w. let h = f.some t w in record {
+      is = inl h.is;
+      low = λ a b x. elim x [ inl y ↦ h.low a b y | inr y ↦ absurd (g.none z a b y) ];
+      rival = λ b x. elim x [ inl y ↦ h.rival b y | inr y ↦ absurd (g.none z _ b y) ];
+    };
   })
   least_lower (no_best z e) = rw e (record {
     none = λ w a b x. elim x [ inl y ↦ f.none z a b y | inr y ↦ g.none w a b y ];
-    some = λ w. inr (g.some w);
-    low = λ a b x. elim x [ inl y ↦ absurd (f.none z a b y) | inr y ↦ g.low a b y ];
-    rival = λ b x. elim x [ inl y ↦ absurd (f.none z _ b y) | inr y ↦ g.rival b y ];
+    some = λ t w. let h = g.some t w in record {
+      is = inr h.is;
+      low = λ a b x. elim x [ inl y ↦ absurd (f.none z a b y) | inr y ↦ h.low a b y ];
+      rival = λ b x. elim x [ inl y ↦ absurd (f.none z _ b y) | inr y ↦ h.rival b y ];
+    };
   })
-  least_lower (found_row n l e) = rw e (record {
-    none = λ w. absurd (n w);
-    some = λ w. inr (g.some w);
-    low = λ a b x. elim x [ inl y ↦ omega (arith, f.low a b y) | inr y ↦ g.low a b y ];
-    rival = λ b x. elim x [ inl y ↦ absurd (omega (arith, f.low found.row b y)) | inr y ↦ g.rival b y ];
-  })
-  least_lower (best_row n l e) = rw e (record {
-    none = λ w. absurd (n w);
-    some = λ w. inl (f.some w);
-    low = λ a b x. elim x [ inl y ↦ f.low a b y | inr y ↦ omega (arith, g.low a b y) ];
-    rival = λ b x. elim x [ inl y ↦ f.rival b y | inr y ↦ absurd (omega (arith, g.low best.row b y)) ];
-  })
-  least_lower (found_rival n z l e) = rw e (record {
-    none = λ w. absurd (n w);
-    some = λ w. inr (g.some w);
-    low = λ a b x. elim x [ inl y ↦ omega (arith, f.low a b y) | inr y ↦ g.low a b y ];
-    rival = λ b x. elim x [ inl y ↦ omega (arith, f.rival b (rw z at y)) | inr y ↦ g.rival b y ];
-  })
-  least_lower (best_rival n z l e) = rw e (record {
-    none = λ w. absurd (n w);
-    some = λ w. inl (f.some w);
-    low = λ a b x. elim x [ inl y ↦ f.low a b y | inr y ↦ omega (arith, g.low a b y) ];
-    rival = λ b x. elim x [ inl y ↦ f.rival b y | inr y ↦ omega (arith, g.rival b (rw (← z) at y)) ];
-  })
+  least_lower (found_first {b = o} {f = n} x y l e) = rw (e, y) (least_some (let h = f.some o x in let k = g.some n y in elim l [
+    | inl l ↦ record {
+      is = inr k.is;
+      low = λ a b x. elim x [ inl y ↦ omega (arith, h.low a b y) | inr y ↦ k.low a b y ];
+      rival = λ b x. elim x [ inl y ↦ absurd (omega (arith, h.low n.row b y)) | inr y ↦ k.rival b y ];
+    }
+    | inr (z, l) ↦ record {
+      is = inr k.is;
+      low = λ a b x. elim x [ inl y ↦ omega (arith, h.low a b y) | inr y ↦ k.low a b y ];
+      rival = λ b x. elim x [ inl y ↦ omega (arith, h.rival b (rw z at y)) | inr y ↦ k.rival b y ];
+    }
+  ]))
+  least_lower (best_first {b = o} {f = n} x y l e) = rw (e, x) (least_some (let h = f.some o x in let k = g.some n y in elim (dec_lt o.row n.row) [
+    | yes d ↦ record {
+      is = inl h.is;
+      low = λ a b x. elim x [ inl y ↦ h.low a b y | inr y ↦ omega (arith, k.low a b y) ];
+      rival = λ b x. elim x [ inl y ↦ h.rival b y | inr y ↦ absurd (omega (arith, k.low o.row b y)) ];
+    }
+    | no d ↦ (let z : n.row ≡ o.row = elim (dec_lt n.row o.row) [ yes m ↦ absurd (l (inl m)) | no m ↦ omega arith ] in record {
+      is = inl h.is;
+      low = λ a b x. elim x [ inl y ↦ h.low a b y | inr y ↦ omega (arith, k.low a b y) ];
+      rival = λ b x. elim x [
+        | inl y ↦ h.rival b y
+        | inr y ↦ elim (dec_lt n.rival o.rival) [ yes m ↦ absurd (l (inr (z, m))) | no m ↦ omega (arith, k.rival b (rw (← z) at y)) ]
+      ];
+    })
+  ]))
 
-pub least_as : {R Q : ℕ → ℕ → Type 0} → ((a b : ℕ) → R a b → Q a b) → ((a b : ℕ) → Q a b → R a b) → {r : Tied} → Least R r → Least Q r
-least_as to from {r} f = record {
+pub least_as : {R Q : ℕ → ℕ → Type 0} → ((a b : ℕ) → R a b → Q a b) → ((a b : ℕ) → Q a b → R a b) → {r : Option Tied} → Least R r → Least Q r
+least_as to from f = record {
   none = λ z a b y. f.none z a b (from a b y);
-  some = λ z. to r.row r.rival (f.some z);
-  low = λ a b y. f.low a b (from a b y);
-  rival = λ b y. f.rival b (from r.row b y);
+  some = λ t z. let h = f.some t z in record { is = to t.row t.rival h.is; low = λ a b y. h.low a b (from a b y); rival = λ b y. h.rival b (from t.row b y) };
 }
-
-pub least_none : {R : ℕ → ℕ → Type 0} → ((a b : ℕ) → R a b → ⊥) → Least R no_tie
-least_none n = record { none = λ z. n; some = λ z. absurd (z refl); low = λ a b y. omega arith; rival = λ b y. omega arith }
 
 -- ---- all points: where a root begins, and behind each place
 
-abbrev pub AtStart : List ℕ → List ℕ → List ℕ → ℕ → ℕ → ℕ → Type 0
+abbrev pub AtStart : List ℕ → List Bool → List ℕ → ℕ → ℕ → ℕ → Type 0
 AtStart s root begin j a b = (flag root j ≡ true) × PointTie s (set_of begin j) a b
 
 abbrev pub AtPlace : List ℕ → List ℕ → ℕ → ℕ → ℕ → Type 0
 AtPlace s behind j a b = (head_number s j < 1026) × PointTie s (set_of behind j) a b
 
 -- at a point of one of the rows 1 to i
-pub record Upto (s root begin behind : List ℕ) (i a b : ℕ) : Type 0 where
+pub record Upto (s : List ℕ) (root : List Bool) (begin behind : List ℕ) (i a b : ℕ) : Type 0 where
   pub point : ℕ
   pub row : in_table i point ≡ true
   pub at : AtStart s root begin point a b ⊎ AtPlace s behind point a b
 
-module _ {s root begin behind : List ℕ} where
-  pub upto_none : Least (Upto s root begin behind 0) no_tie
-  upto_none = least_none (λ a b u. omega (arith, table_low 0 u.point u.row, table_high 0 u.point u.row))
-
-  pub upto_more : {i : ℕ} {best x y mid r : Tied} → Least (Upto s root begin behind i) best → Least (AtStart s root begin (i + 1)) x → Least (AtPlace s behind (i + 1)) y
+module _ {s : List ℕ} {root : List Bool} {begin behind : List ℕ} where
+  pub upto_more : {i : ℕ} {best x y mid r : Option Tied} → Least (Upto s root begin behind i) best → Least (AtStart s root begin (i + 1)) x → Least (AtPlace s behind (i + 1)) y
       → Lower best x mid → Lower mid y r → Least (Upto s root begin behind (i + 1)) r
   upto_more {i} f g h u v = least_as to from (least_lower (least_lower f g u) h v)
     where
@@ -272,13 +249,5 @@ module _ {s root begin behind : List ℕ} where
       ]
 
 -- a point that is there, and one that is not
-pub least_given : {A : Type 0} {R : ℕ → ℕ → Type 0} → A → {r : Tied} → Least R r → Least (λ a b. A × R a b) r
+pub least_given : {A : Type 0} {R : ℕ → ℕ → Type 0} → A → {r : Option Tied} → Least R r → Least (λ a b. A × R a b) r
 least_given x f = least_as (λ a b y. (x, y)) (λ a b y. y.1) f
-
-pub least_missing : {A : Type 0} {R : ℕ → ℕ → Type 0} → (A → ⊥) → Least (λ a b. A × R a b) no_tie
-least_missing n = least_none (λ a b y. n y.0)
-
-pub upto_all : {s : List ℕ} {l : Layout} → Laid s l → {root begin behind : List ℕ} {i : ℕ} {r : Tied} → i ≡ l.types → Least (Upto s root begin behind i) r
-    → Least (Upto s root begin behind (script_of s).types) r
-unfolding script_of
-upto_all L z f = rw (z ∙ L.types) at f

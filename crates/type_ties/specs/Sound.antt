@@ -1,11 +1,11 @@
 -- What the points say is what the meaning calls tied: at the start of a root, by the first sets; behind a place, by the next sets of the one root whose model has it. So the lowest tie of the points
 -- is the lowest tie.
-use Rattle.std.specs.Prelude.{ℕ, ◌≤◌, ◌<◌, ◌≡◌, refl, Bool, true, false, ◌&&◌, ◌||◌, not, List, eqb}
+use Rattle.std.specs.Prelude.{ℕ, ◌≤◌, ◌<◌, ◌≡◌, refl, Bool, true, false, ◌&&◌, ◌||◌, not, List, eqb, Option, Some, None, Result, Ok, Err, replicate}
 use Rattle.std.proofs.Common.{sym, ◌∙◌, arith, eqb-true, eq-eqb, ne_eqb}
 use Rattle.std.proofs.Math.Logic.{inl, inr}
 use Rattle.std.proofs.lemmas.Bool.{eqb-false, not-true}
 use Rattle.meaning.specs.Tests.{some, in_table}
-use Rattle.meaning.specs.Sheet.{row3, script_of}
+use Rattle.meaning.specs.Sheet.{script_of}
 use Rattle.meaning.specs.Shape.{shapely}
 use Rattle.meaning.specs.Places.{Model, Set, first, last, follows, head_at, same_head, rivals, tied, Tie, Untied}
 use Rattle.meaning.specs.Reply.{Answer, Loads}
@@ -14,23 +14,24 @@ use Rattle.meaning.specs.Laws.Bools.{or_left, or_right, or_cases, and_left, and_
 use Rattle.meaning.specs.Laws.Tests.{in_table_lem, table_low, table_high, some_at, some_of}
 use Rattle.meaning.specs.Laws.Wired.{has, behind, ends, wired_next}
 use Rattle.meaning.specs.Laws.Apart.{model_below, model_placed, shaped_lower, first_has, follows_has, followed_has}
-use Rattle.sheet.specs.declared.Layout.{Layout}
-use Rattle.sheet.specs.Laid.{Laid}
+use Rattle.bits.specs.Sets.{Clear}
+use Rattle.sheet.specs.Table.{Table, rows_in, types_in}
 use Rattle.type_barren.specs.Flags.{flag}
 use Rattle.meaning.specs.Laws.Shaped.{few_types}
 use Rattle.type_barren.specs.Marks.{SaysBarren}
-use Rattle.type_places.specs.Tables.{model_of, set_of, Tables, Free, Wires}
+use Rattle.type_places.specs.Tables.{model_of, set_of, Free, Wires}
+use Rattle.type_places.specs.Tables as places
 use Rattle.type_models.specs.Roots.{is_root, Rooted}
 use Rattle.meaning.specs.Laws.Apart.{PlaceKind}
-use Rattle.type_places.specs.Sheets.{laid_tables, laid_free, laid_wires}
+use Rattle.type_places.specs.Sheets.{laid_free, laid_wires}
 use Rattle.type_ties.specs.Users.{above, has_place, place_has, rooted_free}
 use Rattle.type_ties.specs.declared.Tied.{Tied}
-use Rattle.type_ties.specs.declared.Soundness.{Soundness}
-use Rattle.type_ties.specs.declared.Soundness.TheVariants.{Done, Barren, Tie as Tying}
+use Rattle.type_ties.specs.declared.Tables.{Tables}
+use Rattle.type_ties.specs.declared.Unsound.{Unsound}
 use Rattle.type_heads.specs.Heads.{head_number, place_head, head_place, heads_same}
 use Rattle.type_heads.specs.Apart.{Apart}
 use Rattle.type_heads.specs.Classes.{Classes}
-use Rattle.type_ties.specs.Points.{no_tie, PointTie, Least, AtStart, AtPlace, Upto}
+use Rattle.type_ties.specs.Points.{PointTie, Least, AtStart, AtPlace, Upto}
 
 module _ (s : List ℕ) (e : shapely s ≡ true) where
   -- a place of the model at row r
@@ -87,7 +88,8 @@ module _ (s : List ℕ) (e : shapely s ≡ true) where
     | inr y ↦ y
   ]
 
-  module _ {null begin behind' root : List ℕ} (T : Tables (script_of s).type_row (script_of s).types null begin) (R : Rooted s root) (W : Wires (script_of s).type_row root behind' (script_of s).types)
+  module _ {null root : List Bool} {begin behind' : List ℕ} (T : places.Tables (script_of s).type_row (script_of s).types null begin) (R : Rooted s root)
+      (W : Wires (script_of s).type_row root behind' (script_of s).types)
     where
       root_flag : (r : ℕ) → in_table (script_of s).types r ≡ true → flag root r ≡ is_root s r
       root_flag r h = R.at r (omega (arith, table_high (script_of s).types r h, few_types s e))
@@ -170,54 +172,72 @@ module _ (s : List ℕ) (e : shapely s ≡ true) where
       not_tied : (a b : ℕ) → (Upto s root begin behind' (script_of s).types a b → ⊥) → tied (script_of s) a b ≡ false
       not_tied a b n = elim (either (tied (script_of s) a b)) [ inl y ↦ absurd (n (tied_upto a b y)) | inr y ↦ y ]
 
-      pub untied : {r : Tied} → Least (Upto s root begin behind' (script_of s).types) r → r.row ≡ 0 → Untied (script_of s)
+      pub untied : {r : Option Tied} → Least (Upto s root begin behind' (script_of s).types) r → r ≡ None → Untied (script_of s)
       untied f z a b = not_tied a b (f.none z a b)
 
-      pub lowest_tie : {r : Tied} → Least (Upto s root begin behind' (script_of s).types) r → (r.row ≡ 0 → ⊥) → Tie (script_of s) r.row r.rival
-      lowest_tie {r} f n = record {
-        is = upto_tied r.row r.rival (f.some n);
-        lowest = λ c d l. not_tied c d (λ u. omega (arith, f.low c d u));
-        rival = λ d l. not_tied r.row d (λ u. omega (arith, f.rival d u));
+      pub lowest_tie : {r : Option Tied} → Least (Upto s root begin behind' (script_of s).types) r → (t : Tied) → r ≡ Some t → Tie (script_of s) t.row t.rival
+      lowest_tie f t z = let h = f.some t z in record {
+        is = upto_tied t.row t.rival h.is;
+        lowest = λ c d l. not_tied c d (λ u. omega (arith, h.low c d u));
+        rival = λ d l. not_tied t.row d (λ u. omega (arith, h.rival d u));
       }
 
 -- ---- the tables of a sheet
 
-pub record Made (s : List ℕ) (l : Layout) (null root begin behind' class same : List ℕ) : Type 0 where
-  pub tables : Tables (row3 s l.types_at l.types) l.types null begin
+-- nothing stands anywhere
+pub record Empty (t : Tables) : Type 0 where
+  pub first : Clear t.first
+  pub behind : Clear t.behind
+  pub class : t.class ≡ replicate 1026 0
+  pub same : Clear t.same
+  pub kin : t.kin ≡ replicate 576 0
+
+pub record Made (s : List ℕ) (null root : List Bool) (t : Tables) : Type 0 where
+  pub tables : places.Tables (script_of s).type_row (script_of s).types null t.first
   pub rooted : Rooted s root
-  pub wires : Wires (row3 s l.types_at l.types) root behind' l.types
-  pub classes : Classes s class same
+  pub wires : Wires (script_of s).type_row root t.behind (script_of s).types
+  pub classes : Classes s t.class t.same
+
+-- the rows of the table that the sheet lends
+module _ {s : List ℕ} {t : Table} (is : t ≡ types_in s) where
+  pub rows_are : t.rows ≡ (script_of s).types
+  unfolding script_of
+  rows_are = rw is
+
+  pub free_rows : shapely s ≡ true → {root : List Bool} → Rooted s root → {top : ℕ} → top ≡ t.rows → Free (rows_in t) root top
+  free_rows e {root} R {top} z = laid_free is root top (λ i j p q x. rooted_free s e R i j p (omega (arith, rows_are)) x)
+
+  pub wires_all : {root : List Bool} {behind' : List ℕ} {top : ℕ} → top ≡ t.rows → Wires (rows_in t) root behind' top → Wires (script_of s).type_row root behind' (script_of s).types
+  wires_all z W = rw (z ∙ rows_are) at (laid_wires is W)
 
 -- ---- the answer
 
 -- no two places are tied, or these two are the lowest
-pub record SaysTie (s : List ℕ) (r : Tied) : Type 0 where
-  pub none : r.row ≡ 0 → Untied (script_of s)
-  pub lowest : (r.row ≡ 0 → ⊥) → Tie (script_of s) r.row r.rival
+pub record SaysTie (s : List ℕ) (r : Option Tied) : Type 0 where
+  pub none : r ≡ None → Untied (script_of s)
+  pub lowest : (t : Tied) → r ≡ Some t → Tie (script_of s) t.row t.rival
 
-module _ {s : List ℕ} {l : Layout} (L : Laid s l) (e : shapely s ≡ true) where
-  pub free_rows : {root : List ℕ} → Rooted s root → Free (row3 s l.types_at l.types) root l.types
-  unfolding script_of
-  free_rows {root} R = laid_free L root l.types (λ i j p q x. rooted_free s e R i j p (omega (arith, L.types)) x)
-
-  pub says_tie : {null begin behind' root class same : List ℕ} → Made s l null root begin behind' class same → {r : Tied} → Least (Upto s root begin behind' (script_of s).types) r → SaysTie s r
-  unfolding script_of
-  says_tie M f = let T = laid_tables L M.tables in let W = rw L.types at (laid_wires L M.wires) in record { none = untied s e T M.rooted W f; lowest = lowest_tie s e T M.rooted W f }
+pub says_tie : {s : List ℕ} → shapely s ≡ true → {null root : List Bool} {t : Tables} → Made s null root t → {r : Option Tied}
+    → Least (Upto s root t.first t.behind (script_of s).types) r → SaysTie s r
+says_tie {s} e M f = record { none = untied s e M.tables M.rooted M.wires f; lowest = lowest_tie s e M.tables M.rooted M.wires f }
 
 -- where no two places have one head
-pub says_apart : {s : List ℕ} → shapely s ≡ true → Apart s → SaysTie s no_tie
-says_apart {s} e A = record { none = λ z. apart_untied s e A; lowest = λ n. absurd (n refl) }
+pub says_apart : {s : List ℕ} → shapely s ≡ true → Apart s → SaysTie s None
+says_apart {s} e A = record { none = λ z. apart_untied s e A; lowest = λ t z. absurd cc }
 
-pub loads_barren : {s : List ℕ} {x : ℕ} → shapely s ≡ true → SaysBarren s x → (x ≡ 0 → ⊥) → Loads s (Answer.refused (reply.Refusal.barren x))
-loads_barren e b n = reply.Loads.is_barren e (b.lowest n)
+abbrev pub unsound_of : Unsound → reply.Refusal
+unsound_of (Unsound.Barren x) = reply.Refusal.barren x
+unsound_of (Unsound.Tie t) = reply.Refusal.tie t.row t.rival
 
-pub loads_tie : {s : List ℕ} {x : ℕ} {r : Tied} → shapely s ≡ true → SaysBarren s x → x ≡ 0 → SaysTie s r → (r.row ≡ 0 → ⊥) → Loads s (Answer.refused (reply.Refusal.tie r.row r.rival))
-loads_tie e b z t n = reply.Loads.is_tied e (b.none z) (t.lowest n)
+abbrev pub sound_of : Result Unit Unsound → Answer
+sound_of (Ok _) = Answer.done
+sound_of (Err why) = Answer.refused (unsound_of why)
 
-pub loads_sound : {s : List ℕ} {x : ℕ} {r : Tied} → shapely s ≡ true → SaysBarren s x → x ≡ 0 → SaysTie s r → r.row ≡ 0 → Loads s Answer.done
-loads_sound e b z t n = reply.Loads.sound e (b.none z) (t.none n)
+pub loads_barren : {s : List ℕ} {x : ℕ} → shapely s ≡ true → SaysBarren s (Some x) → Loads s (Answer.refused (reply.Refusal.barren x))
+loads_barren {x = x} e b = reply.Loads.is_barren e (b.lowest x refl)
 
-abbrev pub sound_of : Soundness → Answer
-sound_of Done = Answer.done
-sound_of (Barren x) = Answer.refused (reply.Refusal.barren x)
-sound_of (Tying t) = Answer.refused (reply.Refusal.tie t.row t.rival)
+pub loads_tie : {s : List ℕ} {t : Tied} → shapely s ≡ true → SaysBarren s None → SaysTie s (Some t) → Loads s (Answer.refused (reply.Refusal.tie t.row t.rival))
+loads_tie {t = t} e b c = reply.Loads.is_tied e (b.none refl) (c.lowest t refl)
+
+pub loads_sound : {s : List ℕ} → shapely s ≡ true → SaysBarren s None → SaysTie s None → Loads s Answer.done
+loads_sound e b c = reply.Loads.sound e (b.none refl) (c.none refl)

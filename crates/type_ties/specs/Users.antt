@@ -1,5 +1,5 @@
 -- Each type row of a shaped sheet has one user: a side of a row is neither a declared type nor a content, and from every row the users lead up to one that is. What a model has is a place.
-use Rattle.std.specs.Prelude.{ℕ, zero, suc, ◌+◌, ◌≤◌, ◌<◌, ◌≡◌, refl, false, ◌&&◌, ◌||◌, List, set, replicate}
+use Rattle.std.specs.Prelude.{ℕ, zero, suc, ◌+◌, ◌≤◌, ◌<◌, ◌≡◌, refl, Bool, false, ◌&&◌, ◌||◌, List, set, replicate}
 use Rattle.std.proofs.Common.{◌∙◌, eqb-true, eq-eqb}
 use Rattle.std.proofs.Math.Bool.{true}
 use Rattle.std.proofs.Math.Logic.{inl, inr}
@@ -99,14 +99,14 @@ module _ (s : List ℕ) (e : shapely s ≡ true) where
                 (λ y. no_side k z (rw y at x)),
           )
 
-  pub rooted_free : {root : List ℕ} → Rooted s root → Free (script_of s).type_row root (script_of s).types
+  pub rooted_free : {root : List Bool} → Rooted s root → Free (script_of s).type_row root (script_of s).types
   rooted_free r i j p q x =
       let h = in_table_lem (script_of s).types i p q in
       r.at j (omega (arith, (side_part (shaped_rows s e) i j x).lower, few_types s e)) ∙ side_free i j h x
 
   -- one row flagged, and only the rows up to it looked at
-  pub told_free : (told : ℕ) → told ≤ (script_of s).types → Free (script_of s).type_row (set (replicate 513 0) told 1) told
-  told_free told l i j p q x = flag_kept (replicate 513 0) told 1 j (λ z. omega (arith, (side_part (shaped_rows s e) i j x).lower)) ∙ unset 513 j
+  pub told_free : (told : ℕ) → told ≤ (script_of s).types → Free (script_of s).type_row (set (replicate 513 false) told true) told
+  told_free told l i j p q x = flag_kept (replicate 513 false) told true j (λ z. omega (arith, (side_part (shaped_rows s e) i j x).lower)) ∙ unset 513 j
 
   -- ---- from each row up to a root
 

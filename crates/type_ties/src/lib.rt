@@ -1,263 +1,225 @@
 // Ties, and whether a well shaped sheet is sound: refusals 3 and 4. Ones count the places of a head at a point; trailing zeros find the
 // lowest and its lowest rival.
+// `shapely s.now` stays a clause, here and above: the meaning's word for what Shape has seen, which stands above a lent sheet's own type.
 #![tactic(auto)]
 
-ghost use Rattle.std.specs.Prelude.{◌≡◌, true, false, List, ℕ, ◌+◌, ◌<◌, ◌≤◌, length, replicate};
+ghost use Rattle.std.specs.Prelude.{◌≡◌, true, false, List, Bool, ℕ, ◌+◌, ◌<◌, ◌≤◌, replicate};
 ghost use Rattle.meaning.specs.Sheet.{script_of};
 ghost use Rattle.meaning.specs.Shape.{shapely};
-ghost use Rattle.sheet.specs.Laid.{Laid};
+ghost use Rattle.meaning.specs.Reply.{Loads};
 ghost use Rattle.bits.specs.Sets.{in_set, Clear};
 ghost use Rattle.type_barren.specs.Flags.{flag};
 ghost use Rattle.type_places.specs.Tables.{set_of};
 ghost use Rattle.type_heads.specs.Classes.{Classes};
-ghost use Rattle.type_ties.specs.Sound.{Made, SaysTie, sound_of};
-ghost use Rattle.meaning.specs.Reply.{Loads};
 ghost use Rattle.type_ties.specs.Points.{PointTie, OfPlace, Least, Lower, AtStart, AtPlace, Upto};
+ghost use Rattle.type_ties.specs.Sound.{Empty, Made, SaysTie, sound_of};
 
 use bits::{Flags, PLACES, ROWS, Sets, WORDS};
-use sheet::Layout;
+use sheet::Sheet;
+use type_heads::kin::Kin;
 use type_heads::{HEADS, Leads};
 
-// Two tied rows; row 0 where there are none.
-#[derive(Clone, Copy)]
+// The tables of a sheet's types: what may stand where each row begins (`first`) and behind each place (`behind`), End as place 0; the
+// lowest place of each head (`class`), the set of all that have it (`same`), and for each place the number of that set (`kin`).
+#[derive(Drop)]
+pub struct Tables {
+    pub first: Sets,
+    pub behind: Sets,
+    pub class: Leads,
+    pub same: Sets,
+    pub kin: Kin,
+}
+
+impl Tables {
+    // Nothing stands anywhere.
+    pub fn new() -> Tables
+        ensures { Empty result }
+    {
+        Tables {
+            first: [0; WORDS],
+            behind: [0; WORDS],
+            class: [0; HEADS],
+            same: [0; WORDS],
+            kin: [0; PLACES],
+        }
+    }
+}
+
+// Two tied rows. They are ordered by the row, then by the rival.
+#[derive(Clone, Copy, PartialEq, Eq, PartialOrd, Ord)]
 pub struct Tied {
     pub row: usize,
     pub rival: usize,
 }
 
-// The lower of two: by the row, then by the rival.
-fn lower(best: Tied, found: Tied) -> Tied
+// The lower of two, where there are two.
+fn lower(best: Option<Tied>, found: Option<Tied>) -> Option<Tied>
     ensures { Lower best found result }
 {
-    if found.row == 0 {
-        return best;
+    match (best, found) {
+        (Some(old), Some(new)) => Some(old.min(new)),
+        (one, None) | (None, one) => one,
     }
-    if best.row == 0 {
-        return found;
-    }
-    if found.row < best.row {
-        return found;
-    }
-    if best.row < found.row {
-        return best;
-    }
-    if found.rival < best.rival {
-        return found;
-    }
-    best
 }
 
 // The lowest place with the head of place `i` at one point, set `k` of `t`, with its lowest rival.
-fn of_place(s: &[u8], l: Layout, t: &Sets, k: usize, i: usize, class: &Leads, same: &Sets) -> Tied
+#[tactic(auto, using(type_heads::specs::Classes::classes_low))]
+fn of_place(s: &Sheet, t: &Sets, k: usize, i: usize, tables: &Tables) -> Option<Tied>
     requires s_value { shapely s.now ≡ true }
-    requires laid { Laid s.now l }
     requires k_bound { (k ≤ 512) × (i < 576) }
     requires i_value { in_set t.now k i ≡ true }
-    requires classes { Classes s.now class.now same.now }
+    requires classes { Classes s.now tables.now.class tables.now.same }
     ensures { OfPlace s.now (set_of t.now k) i result }
 {
-    let h = type_heads::head(s, l, i);
+    let h = type_heads::head(s, i);
     if HEADS <= h {
-        return Tied { row: 0, rival: 0 };
+        return None;
     }
-    let c = bits::wide(class[h]);
-    if !bits::several_both(t, k, same, c) {
-        return Tied { row: 0, rival: 0 };
+    let c = usize::from(tables.class[h]);
+    if !bits::several_both(t, k, &tables.same, c) {
+        return None;
     }
-    let row = bits::lowest_both(t, k, same, c, 0);
-    let rival = bits::lowest_both(t, k, same, c, row + 1);
-    Tied { row, rival }
+    let row = bits::lowest_both(t, k, &tables.same, c, 0);
+    let rival = bits::lowest_both(t, k, &tables.same, c, row + 1);
+    Some(Tied { row, rival })
 }
 
-// The lowest tie at one point.
-fn at_point(s: &[u8], l: Layout, t: &Sets, k: usize, class: &Leads, same: &Sets) -> Tied
+// The lowest tie at one point. The next member of a set is found by trailing zeros: no range or chain of std's steps so, and a `for` over
+// all places would test each of the 576.
+fn at_point(s: &Sheet, t: &Sets, k: usize, tables: &Tables) -> Option<Tied>
     requires s_value { shapely s.now ≡ true }
-    requires laid { Laid s.now l }
     requires k_bound { k ≤ 512 }
-    requires classes { Classes s.now class.now same.now }
+    requires classes { Classes s.now tables.now.class tables.now.same }
     ensures { Least (PointTie s.now (set_of t.now k)) result }
 {
     let mut i = bits::lowest_both(t, k, t, k, 1);
     while i < PLACES {
-        let found = of_place(s, l, t, k, i, class, same);
-        if found.row != 0 {
-            return found;
+        if let Some(tied) = of_place(s, t, k, i, tables) {
+            return Some(tied);
         }
         i = bits::lowest_both(t, k, t, k, i + 1);
     }
-    Tied { row: 0, rival: 0 }
+    None
 }
 
 // The lowest tie where row `i` begins, if that is a root.
-fn at_start(
-    s: &[u8],
-    l: Layout,
-    i: usize,
-    root: &Flags,
-    first: &Sets,
-    class: &Leads,
-    same: &Sets,
-) -> Tied
+fn at_start(s: &Sheet, i: usize, root: &Flags, tables: &Tables) -> Option<Tied>
     requires s_value { shapely s.now ≡ true }
-    requires laid { Laid s.now l }
     requires i_bound { i ≤ 512 }
-    requires classes { Classes s.now class.now same.now }
-    ensures { Least (AtStart s.now root.now first.now i) result }
+    requires classes { Classes s.now tables.now.class tables.now.same }
+    ensures { Least (AtStart s.now root.now tables.now.first i) result }
 {
-    if root[i] == 1 {
-        return at_point(s, l, first, i, class, same);
+    if root[i] {
+        return at_point(s, &tables.first, i, tables);
     }
-    Tied { row: 0, rival: 0 }
+    None
 }
 
 // The lowest tie behind row `i`, if that is a place.
-fn at_place(s: &[u8], l: Layout, i: usize, behind: &Sets, class: &Leads, same: &Sets) -> Tied
+fn at_place(s: &Sheet, i: usize, tables: &Tables) -> Option<Tied>
     requires s_value { shapely s.now ≡ true }
-    requires laid { Laid s.now l }
     requires i_bound { i ≤ 512 }
-    requires classes { Classes s.now class.now same.now }
-    ensures { Least (AtPlace s.now behind.now i) result }
+    requires classes { Classes s.now tables.now.class tables.now.same }
+    ensures { Least (AtPlace s.now tables.now.behind i) result }
 {
-    if type_heads::head(s, l, i) < HEADS {
-        return at_point(s, l, behind, i, class, same);
+    if type_heads::head(s, i) < HEADS {
+        return at_point(s, &tables.behind, i, tables);
     }
-    Tied { row: 0, rival: 0 }
+    None
 }
 
 // The lowest row concerned with its lowest rival, over all points: where a model begins, and behind each place.
-fn tie(
-    s: &[u8],
-    l: Layout,
-    root: &Flags,
-    first: &Sets,
-    behind: &Sets,
-    class: &Leads,
-    same: &Sets,
-) -> Tied
+#[tactic(auto, using(meaning::specs::Laws::Shaped::few_types))]
+fn tie(s: &Sheet, root: &Flags, tables: &Tables) -> Option<Tied>
     requires s_value { shapely s.now ≡ true }
-    requires laid { Laid s.now l }
-    requires classes { Classes s.now class.now same.now }
-    ensures { Least (Upto s.now root.now first.now behind.now
-        (script_of s.now).types) result }
+    requires classes { Classes s.now tables.now.class tables.now.same }
+    ensures { Least (Upto s.now root.now tables.now.first tables.now.behind (script_of s.now).types) result }
 {
-    let mut best = Tied { row: 0, rival: 0 };
-    let mut i = 0;
-    while i < l.types {
-        best = lower(best, at_start(s, l, i + 1, root, first, class, same));
-        best = lower(best, at_place(s, l, i + 1, behind, class, same));
-        i += 1;
+    let mut best = None;
+    for i in 0..s.types() {
+        best = lower(best, at_start(s, i + 1, root, tables));
+        best = lower(best, at_place(s, i + 1, tables));
     }
     best
 }
 
-// Makes the tables of a sheet: which type rows may be empty, which are models, what may stand first at each and behind each, and the
-// places of each head.
-pub fn make(
-    s: &[u8],
-    l: Layout,
-    null: &mut Flags,
-    root: &mut Flags,
-    first: &mut Sets,
-    behind: &mut Sets,
-    class: &mut Leads,
-    same: &mut Sets,
-)
+// Makes the tables of a sheet but for the kin: what may stand first at each row and behind each, and the places of each head; and on the
+// way which rows may be empty, and which are models.
+pub fn make(s: &Sheet, null: &mut Flags, root: &mut Flags, tables: &mut Tables)
     requires s_value { shapely s.now ≡ true }
-    requires laid { Laid s.now l }
-    requires null_len { length null.old ≡ 513 }
-    requires root_len { (length root.old ≡ 513) × ((y : ℕ) → flag root.old y ≡ false) }
-    requires clear { Clear first.old × Clear behind.old × Clear same.old }
-    requires class_value { class.old ≡ replicate 1026 0 }
-    ensures { Made s.now l null.new root.new first.new behind.new
-        class.new same.new }
+    requires root_value { (y : ℕ) → flag root.old y ≡ false }
+    requires clear { Clear tables.old.first × Clear tables.old.behind × Clear tables.old.same }
+    requires class_value { tables.old.class ≡ replicate 1026 0 }
+    ensures made { Made s.now null.new root.new tables.new }
+    ensures kin { tables.new.kin ≡ tables.old.kin }
 {
-    type_places::firsts(s, l.types_at, l.types, 0, null, first);
-    type_models::roots(s, l, root);
+    let rows = s.type_table();
+    type_places::firsts(&rows, 0, null, &mut tables.first);
+    type_models::roots(s, root);
     type_places::behinds(
-        s, l.types_at, l.types, 0, l.types, root, null, first, behind,
+        &rows,
+        0,
+        rows.rows(),
+        root,
+        null,
+        &tables.first,
+        &mut tables.behind,
     );
-    type_heads::classes(s, l, class, same);
+    type_heads::classes(s, &mut tables.class, &mut tables.same);
 }
 
 // The lowest tie of a sheet by its tables. Where no two places have one head there is none, and no point is looked at.
-pub fn tie_in(
-    s: &[u8],
-    l: Layout,
-    root: &Flags,
-    first: &Sets,
-    behind: &Sets,
-    class: &Leads,
-    same: &Sets,
-) -> Tied
+pub fn tie_in(s: &Sheet, root: &Flags, tables: &Tables) -> Option<Tied>
     requires s_value { shapely s.now ≡ true }
-    requires laid { Laid s.now l }
-    requires by_index { (null : List ℕ) × Made s.now l null root.now first.now behind.now class.now same.now }
+    requires by_index { (null : List Bool) × Made s.now null root.now tables.now }
     ensures { SaysTie s.now result }
 {
-    if type_heads::apart(s, l) {
-        return Tied { row: 0, rival: 0 };
+    if type_heads::apart(s) {
+        return None;
     }
-    tie(s, l, root, first, behind, class, same)
+    tie(s, root, tables)
 }
 
 // The lowest tie of a sheet by tables of its own: these, then all points.
-fn by_tables(s: &[u8], l: Layout) -> Tied
-    requires s_value { shapely s.now ≡ true }
-    requires laid { Laid s.now l }
+fn by_tables(s: &Sheet) -> Option<Tied>
+    requires { shapely s.now ≡ true }
     ensures { SaysTie s.now result }
 {
-    let mut null = [0u8; ROWS];
-    let mut first = [0u64; WORDS];
-    let mut root = [0u8; ROWS];
-    let mut behind = [0u64; WORDS];
-    let mut class = [0u16; HEADS];
-    let mut same = [0u64; WORDS];
-    make(
-        s,
-        l,
-        &mut null,
-        &mut root,
-        &mut first,
-        &mut behind,
-        &mut class,
-        &mut same,
-    );
-    tie(s, l, &root, &first, &behind, &class, &same)
+    let mut null = [false; ROWS];
+    let mut root = [false; ROWS];
+    let mut tables = Tables::new();
+    make(s, &mut null, &mut root, &mut tables);
+    tie(s, &root, &tables)
 }
 
 // The lowest tie of a sheet. Where no two places have one head there is none, and the tables are not made.
-fn lowest_tie(s: &[u8], l: Layout) -> Tied
-    requires s_value { shapely s.now ≡ true }
-    requires laid { Laid s.now l }
+fn lowest_tie(s: &Sheet) -> Option<Tied>
+    requires { shapely s.now ≡ true }
     ensures { SaysTie s.now result }
 {
-    if type_heads::apart(s, l) {
-        return Tied { row: 0, rival: 0 };
+    if type_heads::apart(s) {
+        return None;
     }
-    by_tables(s, l)
+    by_tables(s)
 }
 
 // Refusals 3 and 4, of a sheet that is well shaped.
 #[derive(Clone, Copy)]
-pub enum Soundness {
-    Done,
+pub enum Unsound {
     Barren(usize),
     Tie(Tied),
 }
 
 // In the document's order, Barren before Tie: where a name is barren no tie is looked for.
-pub fn sound(s: &[u8], l: Layout) -> Soundness
-    requires s_value { shapely s.now ≡ true }
-    requires laid { Laid s.now l }
+pub fn sound(s: &Sheet) -> Result<(), Unsound>
+    requires { shapely s.now ≡ true }
     ensures { Loads s.now (sound_of result) }
 {
-    let x = type_barren::barren(s, l);
-    if x != 0 {
-        return Soundness::Barren(x);
+    if let Some(x) = type_barren::barren(s) {
+        return Err(Unsound::Barren(x));
     }
-    let t = lowest_tie(s, l);
-    if t.row != 0 {
-        return Soundness::Tie(t);
+    match lowest_tie(s) {
+        Some(t) => Err(Unsound::Tie(t)),
+        None => Ok(()),
     }
-    Soundness::Done
 }

@@ -104,28 +104,8 @@ module _ (s : List ℕ) (d : ℕ) (e : Scope) where
 
 -- ---- what a row says
 
--- kinds that no query has
-five_up : {k : ℕ} → (k ≡ 0 → ⊥) → (k ≡ 1 → ⊥) → (k ≡ 2 → ⊥) → (k ≡ 3 → ⊥) → (k ≡ 4 → ⊥) → 5 ≤ k
-five_up a b c d e = omega arith
-
-ten_up : {k : ℕ} → 5 ≤ k → (k ≡ 5 → ⊥) → (k ≡ 6 → ⊥) → (k ≡ 7 → ⊥) → (k ≡ 8 → ⊥) → (k ≡ 9 → ⊥) → 10 ≤ k
-ten_up h a b c d e = omega arith
-
-last_up : {k : ℕ} → 10 ≤ k → (k ≡ 10 → ⊥) → (k ≡ 11 → ⊥) → (k ≡ 12 → ⊥) → (k ≡ 13 → ⊥) → 14 ≤ k
-last_up h a b c d = omega arith
-
-pub fourteen_up : {k : ℕ} → (k ≡ 0 → ⊥) → (k ≡ 1 → ⊥) → (k ≡ 2 → ⊥) → (k ≡ 3 → ⊥) → (k ≡ 4 → ⊥) → (k ≡ 5 → ⊥) → (k ≡ 6 → ⊥) → (k ≡ 7 → ⊥) → (k ≡ 8 → ⊥) → (k ≡ 9 → ⊥) → (k ≡ 10 → ⊥) → (k ≡ 11 → ⊥)
-    → (k ≡ 12 → ⊥) → (k ≡ 13 → ⊥) → 14 ≤ k
-fourteen_up a b c d e f g h i j k l m n = last_up (ten_up (five_up a b c d e) f g h i j) k l m n
-
-module _ (s : List ℕ) (at : ℕ) (c : Cells) (is : c ≡ (script_of s).query_row at) where
-  pub form_is : (n : ℕ) → c.kind ≡ n → query_at (script_of s) at ≡ query_form (record { kind = n; p = c.p; q = c.q; r = c.r })
-  form_is n e = ap query_form (sym is) ∙ ap (λ (j : ℕ). query_form (record { kind = j; p = c.p; q = c.q; r = c.r })) e
-
-  pub form_none : 14 ≤ c.kind → query_at (script_of s) at ≡ Query.none
-  form_none h =
-      let e : c.kind ≡ suc (suc (suc (suc (suc (suc (suc (suc (suc (suc (suc (suc (suc (suc (c.kind - 14)))))))))))))) = omega arith in
-      form_is (suc (suc (suc (suc (suc (suc (suc (suc (suc (suc (suc (suc (suc (suc (c.kind - 14))))))))))))))) e
+pub query_is : (s : List ℕ) (at : ℕ) {c : Cells} → c ≡ (script_of s).query_row at → {form : Query} → form ≡ query_form c → query_at (script_of s) at ≡ form
+query_is s at is e = ap query_form (sym is) ∙ sym e
 
 -- a level of depth is left
 pub deeper : (d : ℕ) → (d ≡ 0 → ⊥) → d ≡ suc (d - 1)

@@ -1,5 +1,5 @@
 -- The loop of for and iter as the code does it: each turn's result becomes a link in front of the links before, and what they hold is gathered from the back. It is meaning's `each` (`loop_is`).
-use Rattle.std.specs.Prelude.{ℕ, ◌+◌, ◌≤◌, ◌≡◌, refl, List}
+use Rattle.std.specs.Prelude.{ℕ, ◌+◌, ◌≤◌, ◌≡◌, refl, List, Result, Ok, Err, IsErrAnd}
 use Rattle.std.proofs.Common.{sym, ap, ◌∙◌, subst}
 use Rattle.meaning.specs.Forest.{Tree, Forest, nil, cons, only, ◌⊕◌, count, forest_at}
 use Rattle.meaning.specs.Run.{each}
@@ -9,9 +9,7 @@ use Rattle.meaning.specs.Laws.Rows.{LowRows, SameRows}
 use Rattle.meaning.specs.Laws.Walk.{then_ret, then_assoc, pay_then}
 use Rattle.meaning.specs.Theorems.ReadBack.{lent_row}
 use Rattle.walk.specs.Meets.{Stopped}
-use Rattle.walk.specs.declared.Purse.{Purse}
-use Rattle.walk.specs.declared.Answer.{Answer}
-use Rattle.walk.specs.declared.Answer.TheVariants.{Done, Not}
+use Rattle.walk.specs.declared.Got.{Got}
 use Rattle.walk.specs.declared.Stop.{Stop}
 
 -- links: labelled trees, the last turn's first; a link's children are a turn's result
@@ -89,19 +87,24 @@ pub record Turned (w : Quiet Forest) (byte : ℕ → ℕ) (left used cap : ℕ) 
   pub same : SameRows (lent_row old) (lent_row new) used
   pub links : Links (forest_at byte (lent_row new) root)
 
-abbrev pub TurnsBy : Quiet Forest → (ℕ → ℕ) → ℕ → ℕ → ℕ → List ℕ → List ℕ → Answer → Type 0
-TurnsBy w byte left used cap old new (Done root used' p) = Turned w byte left used cap old new root used' p.left
-TurnsBy w byte left used cap old new (Not why) = Stopped w left why
+abbrev pub TurnsBy : Quiet Forest → (ℕ → ℕ) → ℕ → ℕ → ℕ → List ℕ → List ℕ → Result Got Stop → Type 0
+TurnsBy w byte left used cap old new (Ok g) = Turned w byte left used cap old new g.root g.left.used g.left.purse.left
+TurnsBy w byte left used cap old new (Err why) = Stopped w left why
 
-pub record Turns (w : Quiet Forest) (byte : ℕ → ℕ) (left used cap : ℕ) (old new : List ℕ) (a : Answer) : Type 0 where
+pub record Turns (w : Quiet Forest) (byte : ℕ → ℕ) (left used cap : ℕ) (old new : List ℕ) (a : Result Got Stop) : Type 0 where
   pub by : TurnsBy w byte left used cap old new a
 
-module _ {w : Quiet Forest} {byte : ℕ → ℕ} {left used cap : ℕ} {old new : List ℕ} {a : Answer} where
-  pub turns_done : {root used' : ℕ} {p : Purse} → a ≡ Done root used' p → Turns w byte left used cap old new a → Turned w byte left used cap old new root used' p.left
+module _ {w : Quiet Forest} {byte : ℕ → ℕ} {left used cap : ℕ} {old new : List ℕ} {a : Result Got Stop} where
+  pub turns_done : {g : Got} → a ≡ Ok g → Turns w byte left used cap old new a → Turned w byte left used cap old new g.root g.left.used g.left.purse.left
   turns_done e m = subst (TurnsBy w byte left used cap old new) e m.by
 
-  pub turns_not : {why : Stop} → a ≡ Not why → Turns w byte left used cap old new a → Stopped w left why
+  pub turns_not : {why : Stop} → a ≡ Err why → Turns w byte left used cap old new a → Stopped w left why
   turns_not e m = subst (TurnsBy w byte left used cap old new) e m.by
 
-pub turns_stop : {w : Quiet Forest} {byte : ℕ → ℕ} {left used cap : ℕ} {old new : List ℕ} {why : Stop} → Stopped w left why → Turns w byte left used cap old new (Not why)
+pub turns_stop : {w : Quiet Forest} {byte : ℕ → ℕ} {left used cap : ℕ} {old new : List ℕ} {why : Stop} → Stopped w left why → Turns w byte left used cap old new (Err why)
 turns_stop s = record { by = s }
+
+pub turns_exit : {w : Quiet Forest} {byte : ℕ → ℕ} {left used cap : ℕ} {old new : List ℕ} {why : Stop} (a : Result Got Stop) → IsErrAnd a (λ e. e ≡ why) → Stopped w left why
+    → Turns w byte left used cap old new a
+turns_exit (Ok g) h s = absurd h
+turns_exit {w} {left = left} (Err e) h s = turns_stop (subst (Stopped w left) (sym h) s)

@@ -1,5 +1,5 @@
 -- What an answer has to be, by the walk that the definition gives; and a law for each way in which an evaluator makes its answer from another's.
-use Rattle.std.specs.Prelude.{ℕ, zero, suc, ◌+◌, ◌*◌, ◌≤◌, ◌<◌, ◌≡◌, refl, List, length}
+use Rattle.std.specs.Prelude.{ℕ, zero, suc, ◌+◌, ◌*◌, ◌≤◌, ◌<◌, ◌≡◌, refl, List, length, Result, Ok, Err, IsErrAnd}
 use Rattle.std.proofs.Common.{arith, sym, ◌∙◌, subst}
 use Rattle.meaning.specs.Sheet.{Cells}
 use Rattle.meaning.specs.Forest.{Forest, nil, forest_at}
@@ -8,11 +8,12 @@ use Rattle.meaning.specs.Walk as meaning
 use Rattle.meaning.specs.Laws.Rows.{LowRow, LowRows, SameRows, forest_at_same, forest_at_zero}
 use Rattle.meaning.specs.Laws.Walk.{Leads, leads_then, leads_tick, pay_short, stops_then, fuel_then}
 use Rattle.meaning.specs.Theorems.ReadBack.{lent_row}
+use Rattle.walk.specs.Concern.{concern_of}
 use Rattle.walk.specs.Scope.{Scoped, scoped_more}
 use Rattle.walk.specs.declared.Purse.{Purse}
 use Rattle.walk.specs.declared.Scope.{Scope}
-use Rattle.walk.specs.declared.Answer.{Answer}
-use Rattle.walk.specs.declared.Answer.TheVariants.{Done, Not}
+use Rattle.walk.specs.declared.Concern.{Concern}
+use Rattle.walk.specs.declared.Got.{Got}
 use Rattle.walk.specs.declared.Stop.{Stop}
 use Rattle.walk.specs.declared.Stop.TheVariants.{Fuel, Depth, Stuck}
 
@@ -23,9 +24,6 @@ same_trans n m a b c h x y = λ r i j. x r i j ∙ y r i (omega arith)
 
 pub low_same : (n : ℕ) (a b : ℕ → Cells) → LowRows a n → SameRows a b n → LowRows b n
 low_same n a b low same = λ r i j. subst (λ (c : Cells). LowRow c r) (same r i j) (low r i j)
-
-pub low_less : (n m : ℕ) (a : ℕ → Cells) → n ≤ m → LowRows a m → LowRows a n
-low_less n m a h low = λ r i j. low r i (omega arith)
 
 -- old values stay true
 pub forest_kept : (byte : ℕ → ℕ) (n : ℕ) (a b : ℕ → Cells) (r : ℕ) → LowRows a n → SameRows a b n → r ≤ n → forest_at byte b r ≡ forest_at byte a r
@@ -58,43 +56,43 @@ pub record Finished (w : Quiet Forest) (byte : ℕ → ℕ) (left used : ℕ) (o
 abbrev pub StoppedBy : Quiet Forest → ℕ → Stop → Type 0
 StoppedBy w left Fuel = Settles Unasked w left fuel 0
 StoppedBy w left (Depth p) = Settles Unasked w left (stops meaning.depth) p.left
-StoppedBy w left (Stuck row flag p) = Settles Unasked w left (stops (meaning.stuck (record { row = row; flag = flag }))) p.left
+StoppedBy w left (Stuck at p) = Settles Unasked w left (stops (meaning.stuck (concern_of at))) p.left
 
 pub record Stopped (w : Quiet Forest) (left : ℕ) (why : Stop) : Type 0 where
   pub by : StoppedBy w left why
 
-abbrev pub MeetsBy : Quiet Forest → (ℕ → ℕ) → ℕ → ℕ → List ℕ → List ℕ → Answer → Type 0
-MeetsBy w byte left used old new (Done root used' p) = Finished w byte left used old new root used' p.left
-MeetsBy w byte left used old new (Not why) = Stopped w left why
+abbrev pub MeetsBy : Quiet Forest → (ℕ → ℕ) → ℕ → ℕ → List ℕ → List ℕ → Result Got Stop → Type 0
+MeetsBy w byte left used old new (Ok g) = Finished w byte left used old new g.root g.left.used g.left.purse.left
+MeetsBy w byte left used old new (Err why) = Stopped w left why
 
-pub record Meets (w : Quiet Forest) (byte : ℕ → ℕ) (left used : ℕ) (old new : List ℕ) (a : Answer) : Type 0 where
+pub record Meets (w : Quiet Forest) (byte : ℕ → ℕ) (left used : ℕ) (old new : List ℕ) (a : Result Got Stop) : Type 0 where
   pub by : MeetsBy w byte left used old new a
 
 -- a query's or a statement's own unit writes no row: one is left to spare
-abbrev pub SpareBy : ℕ → ℕ → Answer → Type 0
-SpareBy left used (Done root used' p) = used' + p.left + 1 ≤ used + left
-SpareBy left used (Not why) = Unit {0}
+abbrev pub SpareBy : ℕ → ℕ → Result Got Stop → Type 0
+SpareBy left used (Ok g) = g.left.used + g.left.purse.left + 1 ≤ used + left
+SpareBy left used (Err why) = Unit {0}
 
-pub record Ran (w : Quiet Forest) (byte : ℕ → ℕ) (left used : ℕ) (old new : List ℕ) (a : Answer) : Type 0 where
+pub record Ran (w : Quiet Forest) (byte : ℕ → ℕ) (left used : ℕ) (old new : List ℕ) (a : Result Got Stop) : Type 0 where
   pub met : Meets w byte left used old new a
   pub spare : SpareBy left used a
 
 -- ---- what an arm of a `match` says of the answer
 
-module _ {w : Quiet Forest} {byte : ℕ → ℕ} {left used : ℕ} {old new : List ℕ} {a : Answer} where
-  pub met_done : {root used' : ℕ} {p : Purse} → a ≡ Done root used' p → Meets w byte left used old new a → Finished w byte left used old new root used' p.left
+module _ {w : Quiet Forest} {byte : ℕ → ℕ} {left used : ℕ} {old new : List ℕ} {a : Result Got Stop} where
+  pub met_done : {g : Got} → a ≡ Ok g → Meets w byte left used old new a → Finished w byte left used old new g.root g.left.used g.left.purse.left
   met_done e m = subst (MeetsBy w byte left used old new) e m.by
 
-  pub met_not : {why : Stop} → a ≡ Not why → Meets w byte left used old new a → Stopped w left why
+  pub met_not : {why : Stop} → a ≡ Err why → Meets w byte left used old new a → Stopped w left why
   met_not e m = subst (MeetsBy w byte left used old new) e m.by
 
-  pub ran_done : {root used' : ℕ} {p : Purse} → a ≡ Done root used' p → Ran w byte left used old new a → Finished w byte left used old new root used' p.left
+  pub ran_done : {g : Got} → a ≡ Ok g → Ran w byte left used old new a → Finished w byte left used old new g.root g.left.used g.left.purse.left
   ran_done e m = met_done e m.met
 
-  pub ran_spare : {root used' : ℕ} {p : Purse} → a ≡ Done root used' p → Ran w byte left used old new a → used' + p.left + 1 ≤ used + left
+  pub ran_spare : {g : Got} → a ≡ Ok g → Ran w byte left used old new a → g.left.used + g.left.purse.left + 1 ≤ used + left
   ran_spare e m = subst (SpareBy left used) e m.spare
 
-  pub ran_not : {why : Stop} → a ≡ Not why → Ran w byte left used old new a → Stopped w left why
+  pub ran_not : {why : Stop} → a ≡ Err why → Ran w byte left used old new a → Stopped w left why
   ran_not e m = met_not e m.met
 
   -- the definition in another form
@@ -103,14 +101,24 @@ module _ {w : Quiet Forest} {byte : ℕ → ℕ} {left used : ℕ} {old new : Li
 
 -- and back
 pub met_of : {w : Quiet Forest} {byte : ℕ → ℕ} {left used : ℕ} {old new : List ℕ} {root used' left' : ℕ} → Finished w byte left used old new root used' left'
-    → Meets w byte left used old new (Done root used' (record { left = left' }))
+    → Meets w byte left used old new (Ok (record { root = root; left = record { used = used'; purse = record { left = left' } } }))
 met_of f = record { by = f }
 
-pub met_stop : {w : Quiet Forest} {byte : ℕ → ℕ} {left used : ℕ} {old new : List ℕ} {why : Stop} → Stopped w left why → Meets w byte left used old new (Not why)
+pub met_stop : {w : Quiet Forest} {byte : ℕ → ℕ} {left used : ℕ} {old new : List ℕ} {why : Stop} → Stopped w left why → Meets w byte left used old new (Err why)
 met_stop s = record { by = s }
 
-pub ran_stop : {w : Quiet Forest} {byte : ℕ → ℕ} {left used : ℕ} {old new : List ℕ} {why : Stop} → Stopped w left why → Ran w byte left used old new (Not why)
+-- what the exit of a `?` hands on
+pub met_exit : {w : Quiet Forest} {byte : ℕ → ℕ} {left used : ℕ} {old new : List ℕ} {why : Stop} (a : Result Got Stop) → IsErrAnd a (λ e. e ≡ why) → Stopped w left why
+    → Meets w byte left used old new a
+met_exit (Ok g) h s = absurd h
+met_exit {w} {left = left} (Err e) h s = met_stop (subst (Stopped w left) (sym h) s)
+
+pub ran_stop : {w : Quiet Forest} {byte : ℕ → ℕ} {left used : ℕ} {old new : List ℕ} {why : Stop} → Stopped w left why → Ran w byte left used old new (Err why)
 ran_stop s = record { met = met_stop s; spare = tt }
+
+pub ran_exit : {w : Quiet Forest} {byte : ℕ → ℕ} {left used : ℕ} {old new : List ℕ} {why : Stop} (a : Result Got Stop) → IsErrAnd a (λ e. e ≡ why) → Stopped w left why → Ran w byte left used old new a
+ran_exit (Ok g) h s = absurd h
+ran_exit {w} {left = left} (Err e) h s = ran_stop (subst (Stopped w left) (sym h) s)
 
 -- ---- by a walk that it leads to
 
@@ -121,7 +129,7 @@ module _ {w w' : Quiet Forest} {left left' : ℕ} (to : Leads Unasked w left w' 
       go : (why : Stop) → StoppedBy w' left' why → StoppedBy w left why
       go Fuel s = to fuel 0 s
       go (Depth p) s = to (stops meaning.depth) p.left s
-      go (Stuck row flag p) s = to (stops (meaning.stuck (record { row = row; flag = flag }))) p.left s
+      go (Stuck at p) s = to (stops (meaning.stuck (concern_of at))) p.left s
 
   -- rows may be written on the way
   module _ {byte : ℕ → ℕ} {used used' : ℕ} {old mid new : List ℕ} (grown : used ≤ used') (paid : used' + left' ≤ used + left) (same : SameRows (lent_row old) (lent_row mid) used) where
@@ -135,17 +143,17 @@ module _ {w w' : Quiet Forest} {left left' : ℕ} (to : Leads Unasked w left w' 
       same = same_trans used used' (lent_row old) (lent_row mid) (lent_row new) grown same f.same;
     }
 
-    pub met_leads : {a : Answer} → Meets w' byte left' used' mid new a → Meets w byte left used old new a
+    pub met_leads : {a : Result Got Stop} → Meets w' byte left' used' mid new a → Meets w byte left used old new a
     met_leads {a} m = record { by = go a m.by }
       where
-        go : (a : Answer) → MeetsBy w' byte left' used' mid new a → MeetsBy w byte left used old new a
-        go (Done root n p) m = finished_leads m
-        go (Not why) m = stop_leads m
+        go : (a : Result Got Stop) → MeetsBy w' byte left' used' mid new a → MeetsBy w byte left used old new a
+        go (Ok g) m = finished_leads m
+        go (Err why) m = stop_leads m
 
 -- ---- parts of an evaluator
 
 -- a part is done, and what follows is met from where it left off
-pub met_then : {w : Quiet Forest} {byte : ℕ → ℕ} {left used left' used' root : ℕ} {old mid new : List ℕ} {a : Answer} (k : Forest → Quiet Forest)
+pub met_then : {w : Quiet Forest} {byte : ℕ → ℕ} {left used left' used' root : ℕ} {old mid new : List ℕ} {a : Result Got Stop} (k : Forest → Quiet Forest)
     → Finished w byte left used old mid root used' left' → Meets (k (forest_at byte (lent_row mid) root)) byte left' used' mid new a → Meets (w >>= k) byte left used old new a
 met_then k f m = met_leads (leads_then Unasked k f.settles) f.grown f.paid f.same m
 
@@ -156,14 +164,14 @@ stop_then {w} {left} {why} k s = record { by = go why s.by }
     go : (why : Stop) → StoppedBy w left why → StoppedBy (w >>= k) left why
     go Fuel s = fuel_then Unasked k s
     go (Depth p) s = stops_then Unasked k s
-    go (Stuck row flag p) s = stops_then Unasked k s
+    go (Stuck at p) s = stops_then Unasked k s
 
 -- a row's own unit
-spare_of : (w : Quiet Forest) (byte : ℕ → ℕ) (left left' used : ℕ) (old new : List ℕ) (a : Answer) → left' + 1 ≡ left → MeetsBy w byte left' used old new a → SpareBy left used a
-spare_of w byte left left' used old new (Done root n p) e m = omega (arith, m.paid)
-spare_of w byte left left' used old new (Not why) e m = tt
+spare_of : (w : Quiet Forest) (byte : ℕ → ℕ) (left left' used : ℕ) (old new : List ℕ) (a : Result Got Stop) → left' + 1 ≡ left → MeetsBy w byte left' used old new a → SpareBy left used a
+spare_of w byte left left' used old new (Ok g) e m = omega (arith, m.paid)
+spare_of w byte left left' used old new (Err why) e m = tt
 
-pub ran_tick : {w : Quiet Forest} {byte : ℕ → ℕ} {left' used : ℕ} {old new : List ℕ} {a : Answer} (left : ℕ) → left' + 1 ≡ left → Meets w byte left' used old new a
+pub ran_tick : {w : Quiet Forest} {byte : ℕ → ℕ} {left' used : ℕ} {old new : List ℕ} {a : Result Got Stop} (left : ℕ) → left' + 1 ≡ left → Meets w byte left' used old new a
     → Ran (tick w) byte left used old new a
 ran_tick {w} {byte} {left'} {used} {old} {new} {a} left e m = record {
   met = met_leads (leads_tick Unasked w left left' e) (omega arith) (omega arith) (λ r i j. refl) m;
@@ -182,8 +190,8 @@ stop_pay k w left h = record { by = pay_short Unasked k left w h }
 pub stop_depth : (p : Purse) → Stopped (halt meaning.depth) p.left (Depth p)
 stop_depth p = record { by = halted }
 
-pub stop_stuck : (row flag : ℕ) (p : Purse) → Stopped (halt (meaning.stuck (record { row = row; flag = flag }))) p.left (Stuck row flag p)
-stop_stuck row flag p = record { by = halted }
+pub stop_stuck : (at : Concern) (p : Purse) → Stopped (halt (meaning.stuck (concern_of at))) p.left (Stuck at p)
+stop_stuck at p = record { by = halted }
 
 -- a value as it stands
 pub met_ret : {byte : ℕ → ℕ} {s : List ℕ} {used root : ℕ} (left : ℕ) → LowRows (lent_row s) used → root ≤ used → Finished (ret (forest_at byte (lent_row s) root)) byte left used s s root used left

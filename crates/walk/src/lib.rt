@@ -1,43 +1,36 @@
 // What both walks carry: the purse, by value, and the scope of sixteen places.
 #![tactic(auto)]
 
-ghost use Rattle.std.specs.Prelude.{◌≡◌, ℕ, ◌+◌, ◌<◌, ◌≤◌, length};
+ghost use Rattle.std.specs.Prelude.{◌≡◌, ◌+◌, ◌<◌, ◌≤◌};
+ghost use Rattle.walk.specs.Concern.{concern_of};
 ghost use Rattle.walk.specs.Purse.{Paid};
 ghost use Rattle.walk.specs.Scope.{Fresh, More, value_of};
+ghost use Rattle.walk.specs.declared.Stop.TheVariants.{Fuel};
 
 // Units that are left.
-#[derive(Clone, Copy)]
+#[derive(Clone, Copy, Debug, PartialEq, Eq)]
 pub struct Purse {
     pub left: usize,
 }
 
-#[derive(Clone, Copy)]
-pub enum Taken {
-    Left(Purse),
-    Fuel,
-}
+// A purse that holds too few units.
+#[derive(Clone, Copy, Debug, PartialEq, Eq)]
+pub struct Spent;
 
 impl Purse {
-    // The purse with one unit less, or Fuel.
-    pub fn take(self) -> Taken
+    // The purse with one unit less, or Spent.
+    pub fn take(self) -> Result<Purse, Spent>
         ensures { Paid self.left 1 result }
     {
-        let left = self.left;
-        if left == 0 {
-            return Taken::Fuel;
-        }
-        Taken::Left(Purse { left: left - 1 })
+        self.pay(1)
     }
 
-    // `n` units, one at a time: Fuel where they exceed the purse.
-    pub fn pay(self, n: usize) -> Taken
+    // `n` units, one at a time: Spent where they exceed the purse.
+    pub fn pay(self, n: usize) -> Result<Purse, Spent>
         ensures { Paid self.left n result }
     {
-        let left = self.left;
-        if left < n {
-            return Taken::Fuel;
-        }
-        Taken::Left(Purse { left: left - n })
+        let left = self.left.checked_sub(n).ok_or(Spent)?;
+        Ok(Purse { left })
     }
 
     // The units that it no longer holds, of `fuel`.
@@ -50,6 +43,7 @@ impl Purse {
 }
 
 // A place of the scope: 1 for a forest variable, 2 for a tree variable; its value is a row.
+// The kind stays a number: `with` promises `More` for every kind, and an enum of the two would ask more of its callers.
 #[derive(Clone, Copy)]
 pub struct Place {
     pub kind: u8,
@@ -73,49 +67,89 @@ impl Scope {
         }
     }
 
-    // One place more.
+    // One place more. A row's number is a word: `as u16` loses nothing, and `try_from` would have an error that cannot be.
     pub fn with(self, kind: u8, value: usize) -> Scope
-        requires { (self.count < 16) × (length self.places ≡ 16) × (value < 65536) }
+        requires { (self.count < 16) × (value < 65536) }
         ensures { More self result kind value }
     {
-        let n = self.count;
         let mut next = self;
-        next.places[n] = Place {
+        next.places[self.count] = Place {
             kind,
             value: value as u16,
         };
-        next.count = n + 1;
+        next.count += 1;
         next
     }
 
     // The value of variable `v`: of none, the empty forest's row.
     pub fn value(self, v: usize) -> usize
-        requires { (self.count ≤ 16) × (length self.places ≡ 16) }
+        requires { self.count ≤ 16 }
         ensures { result ≡ value_of self v }
     {
-        let n = self.count;
-        if n <= v {
+        if self.count <= v {
             return 0;
         }
-        let p = self.places[v];
-        p.value as usize
+        usize::from(self.places[v].value)
     }
 }
 
-// What ends a run's walk besides a forest; the purse is what was left. A row is carried with 1 for a query, 2 for a statement.
-#[derive(Clone, Copy)]
+// The row whose rule asks: a query, a statement, or the declared output, which has none.
+#[derive(Clone, Copy, Debug, PartialEq, Eq)]
+pub enum Concern {
+    Output,
+    Query(usize),
+    Statement(usize),
+}
+
+impl Concern {
+    pub fn row(self) -> usize
+        ensures { result ≡ (concern_of self).row }
+    {
+        match self {
+            Concern::Output => 0,
+            Concern::Query(row) => row,
+            Concern::Statement(row) => row,
+        }
+    }
+
+    // 1 for a query, 2 for a statement.
+    pub fn flag(self) -> usize
+        ensures { result ≡ (concern_of self).flag }
+    {
+        match self {
+            Concern::Output => 0,
+            Concern::Query(_) => 1,
+            Concern::Statement(_) => 2,
+        }
+    }
+}
+
+// Where a walk stands: how many rows are in use, and the units that are left.
+#[derive(Clone, Copy, Debug, PartialEq, Eq)]
+pub struct Left {
+    pub used: usize,
+    pub purse: Purse,
+}
+
+// What a walk gives: the row of its value, and where it left off.
+#[derive(Clone, Copy, Debug, PartialEq, Eq)]
+pub struct Got {
+    pub root: usize,
+    pub left: Left,
+}
+
+// What ends a run's walk besides a forest; the purse is what was left.
+#[derive(Clone, Copy, Debug, PartialEq, Eq)]
 pub enum Stop {
     Fuel,
     Depth(Purse),
-    Stuck(usize, usize, Purse),
+    Stuck(Concern, Purse),
 }
 
-#[derive(Clone, Copy)]
-pub enum Answer {
-    Done {
-        root: usize,
-        used: usize,
-        purse: Purse,
-    },
-    Not(Stop),
+impl From<Spent> for Stop {
+    ghost from_gives = { λ _ e. e ≡ Fuel };
+
+    fn from(_spent: Spent) -> Stop {
+        Stop::Fuel
+    }
 }

@@ -22,12 +22,13 @@ use Rattle.meaning.specs.Laws.Points.{table_side, tables_ended}
 use Rattle.meaning.specs.Theorems.Within.{kept_within}
 use Rattle.meaning.specs.Theorems.Within.Sides.{within_included}
 use Rattle.meaning.specs.Theorems.Within.Tables.{found_kept as found-by-tables, sought_kept}
-use Rattle.bits.specs.Sets.{in_set, LowestBoth}
+use Rattle.bits.specs.Sets.{in_set}
 use Rattle.type_places.specs.Tables.{set_of}
 use Rattle.type_models.specs.Roots.{is_root}
 use Rattle.type_rows.specs.Writing.{own_row}
 use Rattle.type_tables.specs.Joined.{joined, beside, found_same}
 use Rattle.type_tables.specs.Sides.{wanted_inner, found_from, found_next, found_inner, wanted_kept, found_kept}
+use Rattle.within_pairs.specs.Queue.{Idle}
 use Rattle.within_pairs.specs.Reach.{Placed, placed_first, Seen}
 use Rattle.within.specs.Match.{image_self, faced_looked, turned_looked}
 use Rattle.within.specs.Matched.{Setting, own_low, sheet_in_lem, own_matches, sheet_matches}
@@ -42,8 +43,8 @@ pub record Lies (s own : List ℕ) (w : ℕ) (r : Bool) : Type 0 where
   pub holds : r ≡ true → Within (names_in (script_of s)) (own_ty own) (declared (script_of s) w)
   pub fails : r ≡ false → Within (names_in (script_of s)) (own_ty own) (declared (script_of s) w) → ⊥
 
-module _ {s own opens nexts first behind class same own-kin kin : List ℕ} {w : ℕ} {od p d f m : List ℕ} {q : ℕ}
-    (R : Run s own opens nexts first behind class same own-kin kin w od p d f m) (low : LowestBoth f 0 f 0 1 q) (end : 576 ≤ q) where
+module _ {s own opens nexts first behind class same own-kin kin : List ℕ} {w : ℕ} {od p d f m : List ℕ}
+    (R : Run s own opens nexts first behind class same own-kin kin w od p d f m) (none : Idle f) where
   abbrev T : ℕ
   T = (script_of s).types
 
@@ -72,9 +73,6 @@ module _ {s own opens nexts first behind class same own-kin kin : List ℕ} {w :
   seen : ℕ → ℕ → Bool
   seen x y = ltb y 576 && cond (leb x T) (ltb 0 x && in_set d x y) (leb (x - T) 512 && in_set od (x - T) y)
 
-  no_fresh : (x y : ℕ) → 1 ≤ x → x ≤ 512 → y < 576 → in_set f x y ≡ true → ⊥
-  no_fresh x y l h k e = let v = (R.fresh.pairs x y l h k e).1 in not_both (and_both (in_set f 0 x) (in_set f 0 x) v v) (low.below x l (omega arith))
-
   sheet_sees : (x y : ℕ) → Placed S nexts x → y < 576 → in_set d x y ≡ true → seen x y ≡ true
   unfolding seen
   sheet_sees x y c k e = let i = sheet_in_lem X x c in rw (lt-ltb y 576 k, le-leb x T (table_high T x i)) (and_both (ltb 0 x) (in_set d x y) (lt-ltb 0 x (table_low T x i)) e)
@@ -89,7 +87,7 @@ module _ {s own opens nexts first behind class same own-kin kin : List ℕ} {w :
 
   -- a pair of contents
   names : (x y : ℕ) → 1 ≤ x → x ≤ 512 → y < 576 → Seen f m x y → Seen-there (set_of opens x) (set_of opens y)
-  names x y l h k (inl e) = absurd (no_fresh x y l h k e)
+  names x y l h k (inl e) = absurd (not_both e (none x y l h k))
   names x y l h k (inr e) = faced_looked hd inner nx from s opens nexts same w (sheet_matches X from w) seen (image_self opens x) (R.entered x y l k (inr e)).found sheet_sees (R.met x y l k e)
 
   abbrev Pair-seen : ℕ → ℕ → Type 0

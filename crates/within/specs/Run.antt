@@ -16,15 +16,11 @@ use Rattle.type_rows.specs.Writing.{own_row}
 use Rattle.type_tables.specs.Joined.{joined}
 use Rattle.type_tables.specs.Sides.{found_from, found_next, found_inner}
 use Rattle.type_heads.specs.Kin.{kin_low}
-use Rattle.within_pairs.specs.Queue.{Queue, Taken, done_kept, done_new}
+use Rattle.within_pairs.specs.Queue.{Idle, Taken, done_kept, done_new}
 use Rattle.within_pairs.specs.Meet.{Facing, Rival, Faced, Outcome}
 use Rattle.within_pairs.specs.Reach.{Placed, Asked, placed_low, placed_first, after_high, first_high, Seen, Tabled, Like, Turned, Arrives, Named, Settled, Walked}
 use Rattle.within.specs.Match.{Image, sheet_asked, Pointed, Reached, Refuted, pointed_reached, pointed_clash, named_pointed, arrives_reached, lost_refuted}
 use Rattle.within.specs.Matched.{Setting, image_lift, own_from, own_low, own_matches, sheet_matches, own_tabled, sheet_tabled}
-
--- no pair is pending
-abbrev pub Idle : List ℕ → Type 0
-Idle p = (a b : ℕ) → 1 ≤ a → a ≤ 512 → b < 576 → in_set p a b ≡ false
 
 -- what was pending or done is done
 faced_done : {t u : List ℕ} {k j : ℕ} {kin same p d d' : List ℕ} → ((x y : ℕ) → 1 ≤ x → x < 576 → y < 576 → in_set t k x ≡ true → Seen p d x y → in_set d' x y ≡ true) → Faced t k u j kin same p d
@@ -57,9 +53,6 @@ turned_done {p = p} {d = d} {a = a} k c idle t = record {
 }
 
 module _ (s own opens nexts first behind class same own-kin kin : List ℕ) (w : ℕ) where
-  abbrev T : ℕ
-  T = (script_of s).types
-
   abbrev S : ℕ → Cells
   S = (script_of s).type_row
 
@@ -96,8 +89,6 @@ module _ (s own opens nexts first behind class same own-kin kin : List ℕ) (w :
   pub record Run (own_done p d f m : List ℕ) : Type 0 where
     pub setting : Setting s own opens nexts first behind class same own-kin kin
     pub asked : (in_table (script_of s).types w ≡ true) × (is_root s w ≡ true)
-    pub queue : Queue p d
-    pub fresh : Queue f m
     pub idle : Idle p
     pub start : Faced first 512 opens w own-kin same own_done own_done
     pub own_each : (x y : ℕ) → 1 ≤ x → x ≤ 512 → y < 576 → in_set own_done x y ≡ true → OwnReached x y × Turned O first behind own-kin s opens nexts same own_done own_done f m x y
@@ -157,13 +148,6 @@ module _ (s own opens nexts first behind class same own-kin kin : List ℕ) (w :
           start_run {d} no-d0 no-d no-f no-m y z = let t = v.holds z in record {
             setting = X;
             asked = asked;
-            queue = record {
-              p_size = t.queue.p_size;
-              d_size = no-d.size;
-              rows = t.queue.rows;
-              pairs = λ a b l h k e. absurd (not_both e (t.none a b l h k));
-            };
-            fresh = v.fresh;
             idle = t.none;
             start = faced_done (λ a b l h k i e. t.all a b l (own_low X a (start_pointed.found a l h i)).1 k (seen_first a b e k)) (o.holds y);
             own_each = λ a b l h k e. elim (t.each a b l h k e) [
@@ -241,8 +225,6 @@ module _ (s own opens nexts first behind class same own-kin kin : List ℕ) (w :
         round_run y z = let u = v.holds z in record {
           setting = R.setting;
           asked = R.asked;
-          queue = u.queue;
-          fresh = v.fresh;
           idle = u.none;
           start = R.start;
           own_each = λ a b l h k e. (let c = R.own_each a b l h k e in (c.0, turned_more (λ x y i g n o. either_way od x y o) known c.1));

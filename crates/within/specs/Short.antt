@@ -1,10 +1,11 @@
 -- A declared type is never Wide: its rows written out are rows of the sheet, none of them twice. And () lies in it exactly if End stands where it begins.
-use Prim.Native.Nat.{ℕ, zero, suc, ◌+◌, ◌*◌, ◌-◌, ◌≤◌, ◌<◌}
-use Rattle.std.specs.Prelude.{◌≡◌, refl, true, false, List, ◌↔◌, get_or}
+use Prim.Native.Nat.{ℕ, zero, suc, ◌+◌, ◌*◌, ◌-◌, ◌≤◌}
+use Rattle.std.specs.Prelude.{◌≡◌, refl, Bool, true, Ok, List, ◌↔◌, ◌⊎◌, get_or, drop, take, length}
+use Rattle.std.proofs.lemmas.List.{get_or-drop, take_all, length-drop}
 use Rattle.std.proofs.Common.{sym, ◌∙◌, ap, inl, inr, eq-or-lt_of_le, le_of_eq, le_of_suc-le-suc, mul-zero, mul-add}
 use Rattle.std.proofs.Math.Path.{fun_ext}
 use Rattle.std.proofs.Math.Nat.{mul-one, mul-le-mul_left, le-mul_of_pos_right}
-use Rattle.std.proofs.Math.Decide.{ℕ_discrete, dec_le}
+use Rattle.std.proofs.Math.Decide.{dec_le}
 use native.Mathlib.Omega.{arith}
 use Rattle.meaning.specs.Words.{word_at}
 use Rattle.meaning.specs.Tests.{total, in_table}
@@ -46,9 +47,10 @@ use Rattle.bits.specs.Sets.{in_set}
 use Rattle.type_tables.specs.Points.{SheetPoints}
 use Rattle.type_rows.specs.Grown.{type_in, form_in, ty_in, Grows, in_sheet, grown_row}
 use Rattle.type_rows.specs.Writing.{own_row, Written, Blank}
-use Rattle.within.specs.Answers.{Answers}
+use Rattle.sheet.specs.declared.forms.Ty.{Ty as Said}
+use Rattle.sheet.specs.Forms.{type_said}
+use Rattle.within.specs.Answers.{Answers, answers_ok}
 use Rattle.within.specs.Plain.{own_type}
-use Rattle.within.specs.declared.Judgement.TheVariants.{Holds, Fails}
 
 -- ---- sums over the rows 1 to n
 
@@ -174,47 +176,51 @@ empty_in {s} e P w h = let z = P.begins w h 0 in let x = places_say s e w nil in
 pub declared_is : {s work : List ℕ} {n : ℕ} → Grows s work n → (r : ℕ) → r ≤ (script_of s).types → ty_in s work n r ≡ declared (script_of s) r
 declared_is {s} {work} {n} g r h = ty_at_same (form_in s work n) (type_at (script_of s)) (script_of s).types (λ i j. g.low i) (λ i j. ap type_form (in_sheet s work n i j)) r h
 
-empty_row : (c : Cells) (at : ℕ → Ty) → c.kind < 2 → ty_form (type_form c) at ≡ Ty.empty
+-- what says nothing says ()
+empty_row : {t : TypeRow} (at : ℕ → Ty) → (t ≡ TypeRow.none) ⊎ (t ≡ TypeRow.empty) → ty_form t at ≡ Ty.empty
 unfolding ty_form
-empty_row c at h = elim (ℕ_discrete c.kind 0) [ yes z ↦ rw z | no z ↦ (let one : c.kind ≡ 1 = omega arith in rw one) ]
+empty_row at (inl e) = rw e
+empty_row at (inr e) = rw e
+
+pub nothing_said : {t : Said} {c d : Cells} → type_said t ≡ type_form c → c ≡ d → (t ≡ Said.Nothing) ⊎ (t ≡ Said.Empty) → (type_form d ≡ TypeRow.none) ⊎ (type_form d ≡ TypeRow.empty)
+nothing_said e same (inl z) = inl (ap type_form (sym same) ∙ sym e ∙ ap type_said z)
+nothing_said e same (inr z) = inr (ap type_form (sym same) ∙ sym e ∙ ap type_said z)
 
 module _ {s work : List ℕ} {n : ℕ} (load : Loads s done) (G : Grows s work n) (w : ℕ) (asked : in_table (script_of s).types w ≡ true) where
   low : w ≤ (script_of s).types
   low = table_high (script_of s).types w asked
 
   -- a declared type lies in itself
-  pub itself : (found : ℕ) → found ≡ w → Answers s (ty_in s work n found) (declared (script_of s) w) Holds
+  pub itself : (found : ℕ) → found ≡ w → Answers s (ty_in s work n found) (declared (script_of s) w) (Ok true)
   itself found e = rw (e, declared_is G w low) (record { by = (declared_few s (loads_shapely load) w low, λ f o. o) })
 
   -- () lies in what may be empty
-  module _ {first behind : List ℕ} (P : SheetPoints s first behind) (found : ℕ) (kind : (type_in s work n found).kind < 2) where
+  module _ {first behind : List ℕ} (P : SheetPoints s first behind) (found : ℕ)
+      (says : (type_form (type_in s work n found) ≡ TypeRow.none) ⊎ (type_form (type_in s work n found) ≡ TypeRow.empty)) where
     nothing : ty_in s work n found ≡ Ty.empty
-    nothing = grown_row s work n G found ∙ empty_row (type_in s work n found) (ty_in s work n) kind
+    nothing = grown_row s work n G found ∙ empty_row (ty_in s work n) says
 
-    pub empty_holds : in_set first w 0 ≡ true → Answers s (ty_in s work n found) (declared (script_of s) w) Holds
+    pub empty_answers : (b : Bool) → b ≡ in_set first w 0 → Answers s (ty_in s work n found) (declared (script_of s) w) (Ok b)
     unfolding size
-    empty_holds h = rw nothing (record { by = (omega arith, (empty_in (loads_shapely load) P w asked).0 h) })
-
-    pub empty_fails : in_set first w 0 ≡ false → Answers s (ty_in s work n found) (declared (script_of s) w) Fails
-    unfolding size
-    empty_fails h = rw nothing (record { by = (omega arith, λ o. not_both ((empty_in (loads_shapely load) P w asked).1 o) h) })
+    empty_answers b e = rw nothing (answers_ok b (omega arith) (λ z. (empty_in (loads_shapely load) P w asked).0 (sym e
+        ∙ z)) (λ z o. not_both ((empty_in (loads_shapely load) P w asked).1 o) (sym e ∙ z)))
 
 -- ---- a type with the same rows is the same type
 
--- the bytes of the rows above row r
-pub record SameAbove (own other : List ℕ) (r : ℕ) : Type 0 where
-  pub at : (k : ℕ) → 6 * r ≤ k → k < 3072 → get_or own k 0 ≡ get_or other k 0
+-- two tables from byte n on
+pub drop_same : (n : ℕ) (own other : List ℕ) → length own ≡ 3072 → length other ≡ 3072 → take (3072 - n) (drop n own) ≡ take (length other - n) (drop n other) → drop n own ≡ drop n other
+drop_same n own other e f h =
+    sym (take_all (3072 - n) (drop n own) (omega (arith, length-drop n own))) ∙ h ∙ take_all (length other - n) (drop n other) (omega (arith, length-drop n other))
 
-pub above_none : (own other : List ℕ) (r i : ℕ) → ((k : ℕ) → 6 * r ≤ k → k < i → get_or own k 0 ≡ get_or other k 0) → 3072 ≤ i → SameAbove own other r
-above_none own other r i h l = record { at = λ k a b. h k a (omega arith) }
+-- the bytes of the rows above row r are the same
+module _ {own other : List ℕ} {r : ℕ} (B : Blank own r) (C : Blank other r) (S : drop (6 * r) own ≡ drop (6 * r) other) where
+  byte_same : (k : ℕ) → 6 * r ≤ k → get_or own k 0 ≡ get_or other k 0
+  byte_same k a =
+      let at : 6 * r + (k - 6 * r) ≡ k = omega arith in
+      rw at at (sym (get_or-drop (6 * r) own (k - 6 * r) 0) ∙ ap (λ l. get_or l (k - 6 * r) 0) S ∙ get_or-drop (6 * r) other (k - 6 * r) 0)
 
-pub above_more : (own other : List ℕ) (r i : ℕ) → ((k : ℕ) → 6 * r ≤ k → k < i → get_or own k 0 ≡ get_or other k 0) → get_or own i 0 ≡ get_or other i 0 → (k : ℕ) → 6 * r ≤ k → k < i + 1
-    → get_or own k 0 ≡ get_or other k 0
-above_more own other r i h e k a b = elim (ℕ_discrete k i) [ yes z ↦ rw z e | no z ↦ h k a (omega arith) ]
-
-module _ {own other : List ℕ} {r : ℕ} (B : Blank own r) (C : Blank other r) (S : SameAbove own other r) where
-  word_same : (i : ℕ) → 3 * r ≤ i → i < 1536 → word_at own i ≡ word_at other i
-  word_same i a b = rw (S.at (2 * i) (omega arith) (omega arith), S.at (2 * i + 1) (omega arith) (omega arith))
+  word_same : (i : ℕ) → 3 * r ≤ i → word_at own i ≡ word_at other i
+  word_same i a = rw (byte_same (2 * i) (omega arith), byte_same (2 * i + 1) (omega arith))
 
   form_none : (c : Cells) → c.kind ≡ 0 → type_form c ≡ TypeRow.none
   form_none c e = rw e
@@ -224,9 +230,9 @@ module _ {own other : List ℕ} {r : ℕ} (B : Blank own r) (C : Blank other r) 
     | inr z ↦ rw z
     | inl z ↦ elim (dec_le i r) [
       | yes l ↦ form_none (own_row own i) (B.none i (table_low 512 i z) l) ∙ sym (form_none (own_row other i) (C.none i (table_low 512 i z) l))
-      | no l ↦ (let a = word_same (0 + 3 * (i - 1)) (omega (arith, table_low 512 i z)) (omega (arith, table_low 512 i z, table_high 512 i z)) in
-          let b = word_same (0 + 3 * (i - 1) + 1) (omega (arith, table_low 512 i z)) (omega (arith, table_low 512 i z, table_high 512 i z)) in
-          let c = word_same (0 + 3 * (i - 1) + 2) (omega (arith, table_low 512 i z)) (omega (arith, table_low 512 i z, table_high 512 i z)) in
+      | no l ↦ (let a = word_same (0 + 3 * (i - 1)) (omega (arith, table_low 512 i z)) in
+          let b = word_same (0 + 3 * (i - 1) + 1) (omega (arith, table_low 512 i z)) in
+          let c = word_same (0 + 3 * (i - 1) + 2) (omega (arith, table_low 512 i z)) in
           rw (z, a, b, c))
     ]
   ]
@@ -237,7 +243,7 @@ module _ {own other : List ℕ} {r : ℕ} (B : Blank own r) (C : Blank other r) 
 -- so it lies in it
 pub lies_alike : {s work : List ℕ} {n found : ℕ} {own : List ℕ} → Grows s work n → (w : ℕ) → in_table (script_of s).types w ≡ true → Written (type_in s work n) found own
     → size (ty_in s work n found) ≤ 512
-    → own_type own 512 ≡ ty_in s work n w → Answers s (ty_in s work n found) (declared (script_of s) w) Holds
+    → own_type own 512 ≡ ty_in s work n w → Answers s (ty_in s work n found) (declared (script_of s) w) (Ok true)
 lies_alike {s} {work} {n} {found} G w asked W few e =
     let one : ty_in s work n found ≡ declared (script_of s) w = sym W.same ∙ e ∙ declared_is G w (table_high (script_of s).types w asked) in
     record { by = (few, λ f o. rw one at o) }

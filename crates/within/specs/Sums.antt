@@ -1,7 +1,7 @@
 -- The sum of a forest, where trees of kind k are wanted: such a tree counts 1, any other tree 2, and 2 is as far as it counts. So the forests of () are those of sum 0, and the forests of text and
 -- bool, each for its own kind, those of sum 1.
 -- The sum of a type is that of its forests where they all have one, and else 2. It goes by the sums of the parts: over names that are not barren each part has a forest.
-use Prim.Native.Nat.{ℕ, zero, suc, ◌+◌, ◌≤◌, min, max}
+use Prim.Native.Nat.{ℕ, ◌+◌, ◌≤◌, min, max}
 use Rattle.std.specs.Prelude.{◌≡◌, Bool, true, false, cond, ◌↔◌, eqb}
 use Rattle.std.proofs.Math.Path.{refl}
 use Rattle.std.proofs.Common.{sym, ◌∙◌, eq-eqb, ne_eqb}
@@ -11,7 +11,8 @@ use native.Mathlib.Omega.{arith}
 use Rattle.meaning.specs.Forest.{Text, Tree, Forest, nil, cons, ◌⊕◌}
 use Rattle.meaning.specs.Types.{Ty, Named, Of, of_empty, of_text, of_bool, of_label, of_seq, of_left, of_right, of_none, of_more, of_name, Within, Fertile}
 use Rattle.meaning.specs.Laws.Barren.{Over, forest_over}
-use Rattle.within.specs.Answers.{plain_ty}
+use Rattle.within.specs.declared.PlainType.{PlainType}
+use Rattle.within.specs.Answers.{plain_ty, plain_kind}
 
 -- ---- sums
 
@@ -325,9 +326,7 @@ module _ (names : ℕ → Named) where
       back (cons t f) e = let z = one_tree 3 t f e in let y = bool_tree t z.0 in rw (z.1, y.1) of_bool
 
   -- within (), text or bool exactly if the sum is theirs
-  pub plain_sum_lem : (k : ℕ) → 1 ≤ k → k ≤ 3 → (τ : Ty) → Over (Fertile names) τ → Within names τ (plain_ty k) ↔ (sum_of k τ ≡ plain_sum k)
-  plain_sum_lem zero l h τ o = absurd (omega arith)
-  plain_sum_lem (suc zero) l h τ o = within_sum names 1 (spans names 1 τ o) (omega arith) empty_forests
-  plain_sum_lem (suc (suc zero)) l h τ o = within_sum names 2 (spans names 2 τ o) (omega arith) text_forests
-  plain_sum_lem (suc (suc (suc zero))) l h τ o = within_sum names 3 (spans names 3 τ o) (omega arith) bool_forests
-  plain_sum_lem (suc (suc (suc (suc k)))) l h τ o = absurd (omega arith)
+  pub plain_sum_lem : (p : PlainType) (τ : Ty) → Over (Fertile names) τ → Within names τ (plain_ty p) ↔ (sum_of (plain_kind p) τ ≡ plain_sum (plain_kind p))
+  plain_sum_lem PlainType.Empty τ o = within_sum names 1 (spans names 1 τ o) (omega arith) empty_forests
+  plain_sum_lem PlainType.Text τ o = within_sum names 2 (spans names 2 τ o) (omega arith) text_forests
+  plain_sum_lem PlainType.Bool τ o = within_sum names 3 (spans names 3 τ o) (omega arith) bool_forests

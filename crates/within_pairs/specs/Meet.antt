@@ -1,12 +1,12 @@
 -- A found point, set k of t, and a wanted one, set j of u, go together: each place a of the first has a rival in the second, a place of set kin[a] of `same`, and the pair is pending or done; End,
 -- place 0, needs End.
 use Rattle.std.specs.Prelude.{ℕ, ◌+◌, ◌≤◌, ◌<◌, ◌≡◌, Bool, true, false, List, ◌⊎◌, get_or}
-use Rattle.std.proofs.Common.{sym, inl, inr, arith}
+use Rattle.std.proofs.Common.{inl, inr, arith}
 use Rattle.std.proofs.lemmas.Bool.{false≢true}
 use Rattle.std.proofs.Math.Decide.{ℕ_discrete, dec_lt}
 use Rattle.meaning.specs.Laws.Bools.{and_left, and_right, and_both, not_both}
 use Rattle.bits.specs.Sets.{in_set, LowestBoth}
-use Rattle.within_pairs.specs.Queue.{Queue, Marked}
+use Rattle.within_pairs.specs.Queue.{Marked}
 
 -- what is asked of the tables
 pub record Facing (t : List ℕ) (k : ℕ) (u : List ℕ) (j : ℕ) (kin : List ℕ) : Type 0 where
@@ -44,36 +44,22 @@ module _ (t : List ℕ) (k : ℕ) (u : List ℕ) (j : ℕ) (kin same : List ℕ)
     pub new : (x y : ℕ) → 1 ≤ x → x < 576 → y < 576 → in_set p' x y ≡ true → (in_set p x y ≡ true) ⊎ ((in_set t k x ≡ true) × Rival x y)
 
   pub record Outcome (p p' d : List ℕ) (r : Bool) : Type 0 where
-    pub queue : Queue p' d
     pub grows : Grows p p'
     pub holds : r ≡ true → Faced p' d
     pub fails : r ≡ false → Clash
 
   -- the places below a are done
   pub record Meeting (p p' d : List ℕ) (a : ℕ) : Type 0 where
-    pub queue : Queue p' d
     pub grows : Grows p p'
     pub place : a < 576 → (1 ≤ a) × (in_set t k a ≡ true)
     pub each : (x : ℕ) → 1 ≤ x → x < a → x < 576 → in_set t k x ≡ true → Rivalled p' d x
 
-  grows_none : (p : List ℕ) → Grows p p
-  grows_none p = record { kept = λ x y l h e. e; new = λ x y l s h e. inl e }
-
   found_place : {from a : ℕ} → 1 ≤ from → LowestBoth t k t k from a → a < 576 → (1 ≤ a) × (in_set t k a ≡ true)
   found_place {from} {a} h l s = (omega (arith, l.onward s), and_left (in_set t k a) (in_set t k a) (l.here s))
-
-  pub meeting_none : {p d : List ℕ} {a : ℕ} → Queue p d → LowestBoth t k t k 1 a → Meeting p p d a
-  meeting_none {p} q l = record {
-    queue = q;
-    grows = grows_none p;
-    place = found_place (omega arith) l;
-    each = λ x i s h e. absurd (not_both (and_both (in_set t k x) (in_set t k x) e e) (l.below x i s));
-  }
 
   pub meeting_more : {p m p' d : List ℕ} {a b a' : ℕ} → Meeting p m d a → a < 576 → LowestBoth u j same (get_or kin a 0) 1 b → b < 576 → Marked m p' d a b → LowestBoth t k t k (a + 1) a'
       → Meeting p p' d a'
   meeting_more {p} {m} {p'} {d} {a} {b} {a'} w s l h mk n = record {
-    queue = mk.queue;
     grows = record {
       kept = λ x y i o e. mk.kept x y i o (w.grows.kept x y i o e);
       new = λ x y i r o e. elim (mk.new x y i o e) [
@@ -101,23 +87,8 @@ module _ (t : List ℕ) (k : ℕ) (u : List ℕ) (j : ℕ) (kin same : List ℕ)
 
   pub no_rival : {p m d : List ℕ} {a b : ℕ} → Meeting p m d a → a < 576 → LowestBoth u j same (get_or kin a 0) 1 b → 576 ≤ b → Outcome p m d false
   no_rival {a = a} {b = b} w s l h = record {
-    queue = w.queue;
     grows = w.grows;
     holds = λ e. absurd (false≢true e);
     fails = λ e. at_place a (w.place s).0 s (w.place s).1 (λ c r. not_both (and_both (in_set u j c) (in_set same (get_or kin a 0) c) r.stands r.like)
         (l.below c r.low (omega (arith, r.high))));
   }
-
-  pub all_met : {p m d : List ℕ} {a : ℕ} → Meeting p m d a → 576 ≤ a → (in_set t k 0 ≡ true → in_set u j 0 ≡ true) → Outcome p m d true
-  all_met w h end = record {
-    queue = w.queue;
-    grows = w.grows;
-    holds = λ e. record { end = end; each = λ a i s m. w.each a i (omega arith) s m };
-    fails = λ e. absurd (false≢true (sym e));
-  }
-
-  pub no_end : {p d : List ℕ} → Queue p d → in_set t k 0 ≡ true → in_set u j 0 ≡ false → Outcome p p d false
-  no_end {p} q e n = record { queue = q; grows = grows_none p; holds = λ z. absurd (false≢true z); fails = λ z. at_end e n }
-
-  pub goes_on : {a a' : ℕ} → a < 576 → LowestBoth t k t k (a + 1) a' → a < a'
-  goes_on {a} {a'} s l = elim (dec_lt a' 576) [ yes h ↦ omega (arith, l.onward h) | no h ↦ omega arith ]

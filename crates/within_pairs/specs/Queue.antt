@@ -1,17 +1,36 @@
 -- Pending pairs and done ones. Set 0 of the pending table has the places with pending pairs; a pending pair is not done, and no pair is with End. A pair that is taken is done: so fewer are missing.
-use Rattle.std.specs.Prelude.{ℕ, zero, suc, ◌≤◌, ◌<◌, ◌≡◌, refl, false, cond, List, ◌⊎◌, eqb, length}
+use Rattle.std.specs.Prelude.{ℕ, zero, suc, ◌≤◌, ◌<◌, ◌≡◌, refl, false, cond, List, ◌⊎◌, eqb, replicate}
 use Rattle.std.proofs.Common.{sym, ◌∙◌, inl, inr, arith, eqb-true, eq-eqb}
 use Rattle.std.proofs.Math.Bool.{true}
 use Rattle.std.proofs.Math.Decide.{ℕ_discrete, dec_lt}
 use Rattle.meaning.specs.Tests.{total}
 use Rattle.meaning.specs.Laws.Bools.{or_left, or_right, or_cases, and_left, and_both, either, not_both}
 use Rattle.bits.specs.Sets.{in_set, Added, Removed, LowestBoth}
+use Rattle.type_places.specs.Tables.{clear_zeros}
+
+-- what stands for the pairs
+pub record Pairs : Type 0 where
+  pub pending : List ℕ
+  pub done : List ℕ
+
+abbrev pub zeros : List ℕ
+zeros = replicate 4617 0
+
+-- no pair is pending
+abbrev pub Idle : List ℕ → Type 0
+Idle p = (a b : ℕ) → 1 ≤ a → a ≤ 512 → b < 576 → in_set p a b ≡ false
 
 pub record Queue (p d : List ℕ) : Type 0 where
-  pub p_size : length p ≡ 4617
-  pub d_size : length d ≡ 4617
   pub rows : (a : ℕ) → a < 576 → in_set p 0 a ≡ true → (1 ≤ a) × (a ≤ 512) × ((b : ℕ) × (1 ≤ b) × (b < 576) × (in_set p a b ≡ true))
   pub pairs : (a b : ℕ) → 1 ≤ a → a ≤ 512 → b < 576 → in_set p a b ≡ true → (1 ≤ b) × (in_set p 0 a ≡ true) × (in_set d a b ≡ false)
+
+-- none yet
+pub queue_none : Queue zeros zeros
+queue_none = record { rows = λ a l e. absurd (not_both e (clear_zeros.none 0 a l)); pairs = λ a b l h k e. absurd (not_both e (clear_zeros.none a b k)) }
+
+-- no pair is done any longer
+pub queue_forgets : {p d : List ℕ} → Queue p d → Queue p zeros
+queue_forgets q = record { rows = q.rows; pairs = λ a b l h k e. (let o = q.pairs a b l h k e in (o.0, o.1, clear_zeros.none a b k)) }
 
 -- the pair (a, b) is seen, and no other is new
 pub record Marked (p p' d : List ℕ) (a b : ℕ) : Type 0 where
@@ -20,72 +39,13 @@ pub record Marked (p p' d : List ℕ) (a b : ℕ) : Type 0 where
   pub kept : (x y : ℕ) → 1 ≤ x → y < 576 → in_set p x y ≡ true → in_set p' x y ≡ true
   pub new : (x y : ℕ) → 1 ≤ x → y < 576 → in_set p' x y ≡ true → (in_set p x y ≡ true) ⊎ ((x ≡ a) × (y ≡ b))
 
-pub marked_done : {p d : List ℕ} (a b : ℕ) → Queue p d → in_set d a b ≡ true → Marked p p d a b
-marked_done a b q h = record { queue = q; seen = inr h; kept = λ x y l k e. e; new = λ x y l k e. inl e }
-
-pub marked_new : {p m p' d : List ℕ} {a b : ℕ} → Queue p d → 1 ≤ a → a ≤ 512 → 1 ≤ b → b < 576 → in_set d a b ≡ false → Added p m a b → Added m p' 0 a → Marked p p' d a b
-marked_new {p} {m} {p'} {d} {a} {b} q la ha lb hb n f g = record {
-  queue = record {
-    p_size = g.size ∙ f.size ∙ q.p_size;
-    d_size = q.d_size;
-    rows = λ x l e. elim (ℕ_discrete x a) [
-      | yes z ↦ rw z (la, ha, (b, lb, hb, here))
-      | no z ↦ (let o = q.rows x l (old_row x l (λ w. z (sym w)) e) in (o.0, o.1, (o.2.0, o.2.1, o.2.2, pair_kept x o.2.0 o.0 o.2.2 o.2.3)))
-    ];
-    pairs = λ x y l h k e. elim (pair_new x y l k e) [
-      | inl z ↦ (let o = q.pairs x y l h k z in (o.0, g.into x (omega arith) ∙ or_left (eqb a x) (f.others 0 x (λ w. omega arith) (omega arith) ∙ o.1), o.2))
-      | inr z ↦ rw (z.0, z.1) (lb, g.into a (omega arith) ∙ or_right (in_set m 0 a) (eq-eqb a a refl), n)
-    ];
-  };
-  seen = inl here;
-  kept = λ x y l k e. pair_kept x y l k e;
-  new = pair_new;
-}
-  where
-    here : in_set p' a b ≡ true
-    here = g.others a b (λ w. omega arith) hb ∙ f.into b hb ∙ or_right (in_set p a b) (eq-eqb b b refl)
-
-    old_row : (x : ℕ) → x < 576 → (a ≡ x → ⊥) → in_set p' 0 x ≡ true → in_set p 0 x ≡ true
-    old_row x l z e = sym (f.others 0 x (λ w. omega arith) l) ∙ elim (or_cases (in_set m 0 x) (eqb a x) (sym (g.into x l) ∙ e)) [ inl w ↦ w | inr w ↦ absurd (z (eqb-true a x w)) ]
-
-    pair_kept : (x y : ℕ) → 1 ≤ x → y < 576 → in_set p x y ≡ true → in_set p' x y ≡ true
-    pair_kept x y l k e = g.others x y (λ w. omega arith) k ∙ elim (ℕ_discrete x a) [
-      | yes z ↦ (let e' : in_set p a y ≡ true = rw z at e in rw z (f.into y k ∙ or_left (eqb b y) e'))
-      | no z ↦ f.others x y z k ∙ e
-    ]
-
-    pair_new : (x y : ℕ) → 1 ≤ x → y < 576 → in_set p' x y ≡ true → (in_set p x y ≡ true) ⊎ ((x ≡ a) × (y ≡ b))
-    pair_new x y l k e = let e' = sym (g.others x y (λ w. omega arith) k) ∙ e in elim (ℕ_discrete x a) [
-      | yes z ↦ (let h : in_set m a y ≡ true = rw z at e' in elim (or_cases (in_set p a y) (eqb b y) (sym (f.into y k) ∙ h)) [ inl w ↦ inl (rw z w) | inr w ↦ inr (z, sym (eqb-true b y w)) ])
-      | no z ↦ inl (sym (f.others x y z k) ∙ e')
-    ]
-
 -- ---- taking a pair
 
 pub record Unflagged (p p' : List ℕ) (a : ℕ) : Type 0 where
-  pub size : length p' ≡ length p
   pub others : (x y : ℕ) → 1 ≤ x → y < 576 → in_set p' x y ≡ in_set p x y
   pub rows : (y : ℕ) → y < 576 → (y ≡ a → ⊥) → in_set p' 0 y ≡ in_set p 0 y
   pub here : in_set p' 0 a ≡ true → (b : ℕ) × (1 ≤ b) × (b < 576) × (in_set p a b ≡ true)
   pub stays : (b : ℕ) → 1 ≤ b → b < 576 → in_set p a b ≡ true → in_set p' 0 a ≡ true
-
-pub unflagged_off : {p p' : List ℕ} {a r : ℕ} → LowestBoth p a p a 1 r → 576 ≤ r → Removed p p' 0 a → Unflagged p p' a
-unflagged_off {p} {p'} {a} {r} l h m = record {
-  size = m.size;
-  others = λ x y k q. m.others x y (λ w. omega arith) q;
-  rows = λ y q z. m.into y z q;
-  here = λ e. absurd (not_both e m.here);
-  stays = λ b k q e. absurd (not_both (and_both (in_set p a b) (in_set p a b) e e) (l.below b k (omega arith)));
-}
-
-pub unflagged_on : {p : List ℕ} {a r : ℕ} → LowestBoth p a p a 1 r → r < 576 → in_set p 0 a ≡ true → Unflagged p p a
-unflagged_on {p} {a} {r} l h f = record {
-  size = refl;
-  others = λ x y k q. refl;
-  rows = λ y q z. refl;
-  here = λ e. (r, l.onward h, h, and_left (in_set p a r) (in_set p a r) (l.here h));
-  stays = λ b k q e. f;
-}
 
 -- how many pairs are not done
 abbrev absent : List ℕ → ℕ → ℕ → ℕ
@@ -142,9 +102,13 @@ pub record Taken (p p' d d' : List ℕ) (a b : ℕ) : Type 0 where
   pub done : Added d d' a b
   pub less : missing d' < missing d
 
--- a place that is flagged has a pending pair
-pub taken_low : {p d : List ℕ} {a b : ℕ} → Queue p d → a < 576 → in_set p 0 a ≡ true → LowestBoth p a p a 1 b → (b < 576) × (in_set p a b ≡ true)
-taken_low {p} {d} {a} {b} q la f l = go (dec_lt b 576)
+-- the lowest place of a set is one of the set
+pub lowest_in : {p : List ℕ} {w a : ℕ} → LowestBoth p w p w 1 a → a < 576 → in_set p w a ≡ true
+lowest_in {p} {w} {a} l h = and_left (in_set p w a) (in_set p w a) (l.here h)
+
+-- a place of set 0 has a pending pair
+pub taken_low : {p d : List ℕ} {a b : ℕ} → Queue p d → in_set p 0 a ≡ true → a < 576 → LowestBoth p a p a 1 b → (b < 576) × (in_set p a b ≡ true)
+taken_low {p} {d} {a} {b} q f la l = go (dec_lt b 576)
   where
     some : (1 ≤ a) × (a ≤ 512) × ((b : ℕ) × (1 ≤ b) × (b < 576) × (in_set p a b ≡ true))
     some = q.rows a la f
@@ -153,11 +117,9 @@ taken_low {p} {d} {a} {b} q la f l = go (dec_lt b 576)
     go (yes h) = (h, and_left (in_set p a b) (in_set p a b) (l.here h))
     go (no h) = absurd (not_both (and_both (in_set p a some.2.0) (in_set p a some.2.0) some.2.3 some.2.3) (l.below some.2.0 some.2.1 (omega (arith, some.2.2))))
 
-pub taken : {p m p' d d' : List ℕ} {a b : ℕ} → Queue p d → a < 576 → in_set p 0 a ≡ true → LowestBoth p a p a 1 b → Removed p m a b → Unflagged m p' a → Added d d' a b → Taken p p' d d' a b
-taken {p} {m} {p'} {d} {d'} {a} {b} q la f l r u g = record {
+pub taken : {p m p' d d' : List ℕ} {a b : ℕ} → Queue p d → in_set p 0 a ≡ true → a < 576 → LowestBoth p a p a 1 b → Removed p m a b → Unflagged m p' a → Added d d' a b → Taken p p' d d' a b
+taken {p} {m} {p'} {d} {d'} {a} {b} q f la l r u g = record {
   queue = record {
-    p_size = u.size ∙ r.size ∙ q.p_size;
-    d_size = g.size ∙ q.d_size;
     rows = λ x k e. elim (ℕ_discrete x a) [
       | yes z ↦ (let o = u.here (rw z at e) in rw z (o1, o2, (o.0, o.1, o.2, u.others a o.0 o1 o.2 ∙ o.3)))
       | no z ↦ (let e' = sym (r.others 0 x (λ w. omega (arith, o1)) k) ∙ sym (u.rows x k z) ∙ e in let o = q.rows x k e' in
@@ -189,10 +151,10 @@ taken {p} {m} {p'} {d} {d'} {a} {b} q la f l r u g = record {
     o2 = some.1
 
     hb : b < 576
-    hb = (taken_low q la f l).0
+    hb = (taken_low q f la l).0
 
     has : in_set p a b ≡ true
-    has = (taken_low q la f l).1
+    has = (taken_low q f la l).1
 
     back : (x y : ℕ) → 1 ≤ x → y < 576 → in_set p' x y ≡ true → in_set p x y ≡ true
     back x y k s e = let e' = sym (u.others x y k s) ∙ e in elim (ℕ_discrete x a) [

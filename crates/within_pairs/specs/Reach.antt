@@ -9,11 +9,11 @@ use Rattle.meaning.specs.Places.{start, next}
 use Rattle.meaning.specs.Laws.Wired.{has, Wired, ends, wired_next}
 use Rattle.meaning.specs.Laws.Apart.{Lower, model_placed, model_below, first_has, follows_has}
 use Rattle.meaning.specs.Laws.Points.{has_first, has_follows}
-use Rattle.meaning.specs.Laws.Bools.{or_right, and_left, and_both, either, not_both}
-use Rattle.bits.specs.Sets.{in_set, LowestBoth, Added}
+use Rattle.meaning.specs.Laws.Bools.{or_right, and_both}
+use Rattle.bits.specs.Sets.{in_set, Added}
 use Rattle.type_places.specs.Tables.{set_of, row_model}
 use Rattle.type_heads.specs.Heads.{stands_for, acting_at}
-use Rattle.within_pairs.specs.Queue.{Queue, Marked, Taken, done_kept, done_new}
+use Rattle.within_pairs.specs.Queue.{Idle, Taken, done_kept, done_new}
 use Rattle.within_pairs.specs.Meet.{Facing, Rival, Faced, Clash, Outcome}
 
 -- pending or done
@@ -97,8 +97,6 @@ module _ (row : ℕ → Cells) (first behind kin s wanted-first wanted-behind sa
   Contents a b x y = ((row a).kind ≡ 8) × (x ≡ (stands_for s (row a)).q) × (y ≡ (acting_at s b).q)
 
   pub record Turn (p p' d f f' m : List ℕ) (a b : ℕ) (r : Bool) : Type 0 where
-    pub queue : Queue p' d
-    pub fresh : Queue f' m
     pub kept : (x y : ℕ) → 1 ≤ x → y < 576 → in_set p x y ≡ true → in_set p' x y ≡ true
     pub new : (x y : ℕ) → 1 ≤ x → x ≤ 512 → y < 576 → in_set p' x y ≡ true → (in_set p x y ≡ true) ⊎ (After a b x y ⊎ Inner a b x y)
     pub f_kept : (x y : ℕ) → 1 ≤ x → y < 576 → in_set f x y ≡ true → in_set f' x y ≡ true
@@ -120,10 +118,8 @@ module _ (row : ℕ → Cells) (first behind kin s wanted-first wanted-behind sa
 
   module _ {p f m d : List ℕ} {a b : ℕ} where
     -- behind the pair a place has no rival
-    pub turn_not_after : {p' : List ℕ} → Queue f m → Outcome behind a wanted-behind b kin same p p' d false → Turn p p' d f f m a b false
-    turn_not_after q o = record {
-      queue = o.queue;
-      fresh = q;
+    pub turn_not_after : {p' : List ℕ} → Outcome behind a wanted-behind b kin same p p' d false → Turn p p' d f f m a b false
+    turn_not_after o = record {
       kept = o.grows.kept;
       new = λ x y l s h e. elim (o.grows.new x y l (omega arith) h e) [ inl z ↦ inl z | inr z ↦ inr (inl z) ];
       f_kept = λ x y l h e. e;
@@ -133,11 +129,9 @@ module _ (row : ℕ → Cells) (first behind kin s wanted-first wanted-behind sa
     }
 
     -- a label: what is inside
-    label_turn : {p1 p' : List ℕ} {r : Bool} → Queue f m → (row a).kind ≡ 4 → Outcome behind a wanted-behind b kin same p p1 d true
+    label_turn : {p1 p' : List ℕ} {r : Bool} → (row a).kind ≡ 4 → Outcome behind a wanted-behind b kin same p p1 d true
         → Outcome first (row a).q wanted-first (acting_at s b).q kin same p1 p' d r → Turn p p' d f f m a b r
-    label_turn {p1} {p'} {r} q k o i = record {
-      queue = i.queue;
-      fresh = q;
+    label_turn {p1} {p'} {r} k o i = record {
       kept = λ x y l h e. i.grows.kept x y l h (o.grows.kept x y l h e);
       new = λ x y l s h e. elim (i.grows.new x y l (omega arith) h e) [
         | inl z ↦ elim (o.grows.new x y l (omega arith) h z) [ inl w ↦ inl w | inr w ↦ inr (inl w) ]
@@ -154,36 +148,9 @@ module _ (row : ℕ → Cells) (first behind kin s wanted-first wanted-behind sa
     }
 
     -- the rows of the two contents are these
-    pub turn_label : {p1 p' : List ℕ} {r : Bool} {i j : ℕ} → Queue f m → (row a).kind ≡ 4 → Outcome behind a wanted-behind b kin same p p1 d true
+    pub turn_label : {p1 p' : List ℕ} {r : Bool} {i j : ℕ} → (row a).kind ≡ 4 → Outcome behind a wanted-behind b kin same p p1 d true
         → Outcome first i wanted-first j kin same p1 p' d r → i ≡ (row a).q → j ≡ (acting_at s b).q → Turn p p' d f f m a b r
-    turn_label q k o t x y = label_turn q k o (rw (x, y) at t)
-
-    -- a name: the pair of contents
-    pub turn_name : {p' f' : List ℕ} → (row a).kind ≡ 8 → 1 ≤ (stands_for s (row a)).q → (acting_at s b).q < 576 → Outcome behind a wanted-behind b kin same p p' d true
-        → Marked f f' m (stands_for s (row a)).q (acting_at s b).q → Turn p p' d f f' m a b true
-    turn_name k lo hi o i = record {
-      queue = o.queue;
-      fresh = i.queue;
-      kept = o.grows.kept;
-      new = λ x y l s h e. elim (o.grows.new x y l (omega arith) h e) [ inl z ↦ inl z | inr z ↦ inr (inl z) ];
-      f_kept = i.kept;
-      f_new = λ x y l h e. elim (i.new x y l h e) [ inl z ↦ inl z | inr z ↦ inr (k, z.0, z.1) ];
-      holds = λ z. record { after = o.holds refl; inside = λ w. absurd (omega (arith, k, w)); named = λ w. (lo, hi, i.seen) };
-      fails = λ z. absurd (false≢true (sym z));
-    }
-
-    -- text, bool
-    pub turn_leaf : {p' : List ℕ} → Queue f m → ((row a).kind ≡ 4 → ⊥) → ((row a).kind ≡ 8 → ⊥) → Outcome behind a wanted-behind b kin same p p' d true → Turn p p' d f f m a b true
-    turn_leaf q x4 x8 o = record {
-      queue = o.queue;
-      fresh = q;
-      kept = o.grows.kept;
-      new = λ x y l s h e. elim (o.grows.new x y l (omega arith) h e) [ inl z ↦ inl z | inr z ↦ inr (inl z) ];
-      f_kept = λ x y l h e. e;
-      f_new = λ x y l h e. inl e;
-      holds = λ z. record { after = o.holds refl; inside = λ w. absurd (x4 w); named = λ w. absurd (x8 w) };
-      fails = λ z. absurd (false≢true (sym z));
-    }
+    turn_label k o t x y = label_turn k o (rw (x, y) at t)
 
   -- ---- the walk
 
@@ -201,14 +168,12 @@ module _ (row : ℕ → Cells) (first behind kin s wanted-first wanted-behind sa
 
   -- no pair is pending: each that is done was done before, or has been reached and looked at
   pub record Settled (p p' d d' f' m : List ℕ) : Type 0 where
-    pub queue : Queue p' d'
-    pub none : (a b : ℕ) → 1 ≤ a → a ≤ 512 → b < 576 → in_set p' a b ≡ false
+    pub none : Idle p'
     pub kept : (x y : ℕ) → y < 576 → in_set d x y ≡ true → in_set d' x y ≡ true
     pub all : (x y : ℕ) → 1 ≤ x → x ≤ 512 → y < 576 → in_set p x y ≡ true → in_set d' x y ≡ true
     pub each : (x y : ℕ) → 1 ≤ x → x ≤ 512 → y < 576 → in_set d' x y ≡ true → (in_set d x y ≡ true) ⊎ (Arrives p x y × Turned p' d' f' m x y)
 
   pub record Walked (p p' d d' f f' m : List ℕ) (r : Bool) : Type 0 where
-    pub fresh : Queue f' m
     pub f_kept : (x y : ℕ) → 1 ≤ x → y < 576 → in_set f x y ≡ true → in_set f' x y ≡ true
     pub f_new : (x y : ℕ) → 1 ≤ x → y < 576 → in_set f' x y ≡ true → (in_set f x y ≡ true) ⊎ Named p x y
     pub holds : r ≡ true → Settled p p' d d' f' m
@@ -218,11 +183,8 @@ module _ (row : ℕ → Cells) (first behind kin s wanted-first wanted-behind sa
   abbrev pub Like : List ℕ → Type 0
   Like p = (x y : ℕ) → 1 ≤ x → x ≤ 512 → y < 576 → in_set p x y ≡ true → Placed row behind x × (in_set same (get_or kin x 0) y ≡ true)
 
-  pub record Walking (p0 d0 f0 m p d f : List ℕ) (next : ℕ) : Type 0 where
-    pub queue : Queue p d
-    pub fresh : Queue f m
+  pub record Walking (p0 d0 f0 m p d f : List ℕ) : Type 0 where
     pub like : Like p
-    pub lowest : LowestBoth p 0 p 0 1 next
     pub f_kept : (x y : ℕ) → 1 ≤ x → y < 576 → in_set f0 x y ≡ true → in_set f x y ≡ true
     pub f_new : (x y : ℕ) → 1 ≤ x → y < 576 → in_set f x y ≡ true → (in_set f0 x y ≡ true) ⊎ Named p0 x y
     pub kept : (x y : ℕ) → y < 576 → in_set d0 x y ≡ true → in_set d x y ≡ true
@@ -230,12 +192,9 @@ module _ (row : ℕ → Cells) (first behind kin s wanted-first wanted-behind sa
     pub arrived : (x y : ℕ) → 1 ≤ x → x ≤ 512 → y < 576 → in_set p x y ≡ true → Arrives p0 x y
     pub each : (x y : ℕ) → 1 ≤ x → x ≤ 512 → y < 576 → in_set d x y ≡ true → (in_set d0 x y ≡ true) ⊎ (Arrives p0 x y × Turned p d f m x y)
 
-  pub walking_none : {p d f m : List ℕ} {next : ℕ} → Queue p d → Queue f m → Like p → LowestBoth p 0 p 0 1 next → Walking p d f m p d f next
-  walking_none q g l n = record {
-    queue = q;
-    fresh = g;
+  pub walking_none : {p d f m : List ℕ} → Like p → Walking p d f m p d f
+  walking_none l = record {
     like = l;
-    lowest = n;
     f_kept = λ x y k h e. e;
     f_new = λ x y k h e. inl e;
     kept = λ x y h e. e;
@@ -244,11 +203,8 @@ module _ (row : ℕ → Cells) (first behind kin s wanted-first wanted-behind sa
     each = λ x y k s h e. inl e;
   }
 
-  module _ {p0 d0 f0 m p d f : List ℕ} {a : ℕ} (w : Walking p0 d0 f0 m p d f a) where
-    pub flagged : a < 576 → in_set p 0 a ≡ true
-    flagged h = and_left (in_set p 0 a) (in_set p 0 a) (w.lowest.here h)
-
-    module _ {p1 d1 : List ℕ} {b : ℕ} (t : Taken p p1 d d1 a b) where
+  module _ {p0 d0 f0 m p d f : List ℕ} (w : Walking p0 d0 f0 m p d f) where
+    module _ {p1 d1 : List ℕ} {a b : ℕ} (t : Taken p p1 d d1 a b) where
       pub this_like : Placed row behind a × (in_set same (get_or kin a 0) b ≡ true)
       this_like = w.like a b t.low.0 t.low.1 t.low.3 t.was
 
@@ -277,7 +233,6 @@ module _ (row : ℕ → Cells) (first behind kin s wanted-first wanted-behind sa
 
         pub walk_lost : r ≡ false → Walked p0 p' d0 d1 f0 f' m false
         walk_lost e = record {
-          fresh = u.fresh;
           f_kept = f_both;
           f_new = f_all;
           holds = λ z. absurd (false≢true z);
@@ -291,10 +246,8 @@ module _ (row : ℕ → Cells) (first behind kin s wanted-first wanted-behind sa
           named = λ k. (let o = v.named k in (o.0, o.1, elim o.2 [ inl z ↦ inl (u.f_kept _ _ o.0 o.1 z) | inr z ↦ inr z ]));
         }
 
-        pub walking_more : Tabled → r ≡ true → {next : ℕ} → LowestBoth p' 0 p' 0 1 next → Walking p0 d0 f0 m p' d1 f' next
-        walking_more k0 e n = record {
-          queue = u.queue;
-          fresh = u.fresh;
+        pub walking_more : Tabled → r ≡ true → Walking p0 d0 f0 m p' d1 f'
+        walking_more k0 e = record {
           like = λ x y k s h z. elim (u.new x y k s h z) [
             | inl v ↦ w.like x y k s h (t.rest x y k h v)
             | inr v ↦ elim v [
@@ -302,7 +255,6 @@ module _ (row : ℕ → Cells) (first behind kin s wanted-first wanted-behind sa
               | inr o ↦ (placed_first (k0.content a o.0) x k (omega arith) o.1, o.2.like)
             ]
           ];
-          lowest = n;
           f_kept = f_both;
           f_new = f_all;
           kept = λ x y h z. done_kept t.done x y h (w.kept x y h z);
@@ -316,24 +268,3 @@ module _ (row : ℕ → Cells) (first behind kin s wanted-first wanted-behind sa
             | inr v ↦ rw (v.0, v.1) (inr (this_arrives, u.holds e))
           ];
         }
-
-    pub walk_settled : 576 ≤ a → Walked p0 p d0 d f0 f m true
-    walk_settled h = record {
-      fresh = w.fresh;
-      f_kept = w.f_kept;
-      f_new = w.f_new;
-      holds = λ z. record {
-        queue = w.queue;
-        none = empty;
-        kept = w.kept;
-        all = λ x y k s o e. elim (w.all x y k s o e) [ inl v ↦ absurd (not_both v (empty x y k s o)) | inr v ↦ v ];
-        each = w.each;
-      };
-      fails = λ z. absurd (false≢true (sym z));
-    }
-      where
-        empty : (x y : ℕ) → 1 ≤ x → x ≤ 512 → y < 576 → in_set p x y ≡ false
-        empty x y k s o = elim (either (in_set p x y)) [
-          | inr z ↦ z
-          | inl z ↦ (let v = (w.queue.pairs x y k s o z).1 in absurd (not_both (and_both (in_set p 0 x) (in_set p 0 x) v v) (w.lowest.below x k (omega arith))))
-        ]

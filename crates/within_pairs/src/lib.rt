@@ -4,102 +4,96 @@
 pub mod pending;
 
 ghost use Rattle.std.specs.Prelude.{◌≡◌, true, ◌<◌, get_or};
-ghost use Rattle.meaning.specs.Sheet.{row3};
-ghost use Rattle.sheet.specs.Laid.{Laid};
-ghost use Rattle.sheet.specs.Whole.{Lies};
 ghost use Rattle.bits.specs.Sets.{in_set};
-ghost use Rattle.within_pairs.specs.Queue.{Queue};
-ghost use Rattle.within_pairs.specs.Reach.{Placed, Tabled, Like, Turn, Walked};
+ghost use Rattle.sheet.specs.Table.{rows_in};
+ghost use Rattle.within_pairs.specs.Sides.{TabledBy, LikeBy, TurnBy, WalkedBy};
+ghost use Rattle.within_pairs.specs.Reach.{Placed};
 
-use bits::{PLACES, Sets};
-use sheet::Layout;
+use crate::pending::{Pairs, Point};
+use bits::Sets;
+use sheet::forms::Ty;
+use sheet::{Sheet, TypeTable};
 use type_heads::kin::Kin;
+
+// A table of found places: its rows, what may stand first at each row and behind each, and the kin of each place.
+#[derive(Clone, Copy)]
+pub struct Found<'a> {
+    pub rows: &'a TypeTable<'a>,
+    pub first: &'a Sets,
+    pub behind: &'a Sets,
+    pub kin: &'a Kin,
+}
+
+// The sheet's places: what may stand first at each row and behind each, and the places of each head.
+#[derive(Clone, Copy)]
+pub struct Wanted<'a> {
+    pub sheet: &'a Sheet<'a>,
+    pub first: &'a Sets,
+    pub behind: &'a Sets,
+    pub same: &'a Sets,
+}
 
 // What is behind the pair (a, b), and what is inside: a name's content is the sheet's, and goes to `fresh`.
 fn turn(
-    s: &[u8],
-    l: Layout,
-    x: &[u8],
-    at: usize,
-    n: usize,
+    found: &Found,
+    wanted: &Wanted,
     a: usize,
     b: usize,
-    first: &Sets,
-    behind: &Sets,
-    kin: &Kin,
-    opens: &Sets,
-    nexts: &Sets,
-    same: &Sets,
-    pending: &mut Sets,
-    done: &Sets,
-    fresh: &mut Sets,
-    met: &Sets,
+    queue: &mut Pairs,
+    fresh: &mut Pairs,
 ) -> bool
-    requires laid { Laid s.now l × Lies x.now at 3 n }
-    requires tabled { Tabled (row3 x.now at n) first.now behind.now kin.now s.now opens.now nexts.now same.now }
-    requires queue { Queue pending.old done.now }
-    requires queue_2 { Queue fresh.old met.now }
-    requires placed { Placed (row3 x.now at n) behind.now a × (b < 576) × (in_set same.now (get_or kin.now a 0) b ≡ true) }
-    ensures { Turn (row3 x.now at n) first.now behind.now kin.now s.now
-        opens.now nexts.now same.now pending.old pending.new done.now
-        fresh.old fresh.new met.now a b result }
+    requires tabled { TabledBy found.now wanted.now }
+    requires placed { Placed (rows_in found.now.rows.now) found.now.behind.now a
+        × (b < 576) × (in_set wanted.now.same.now (get_or found.now.kin.now a 0) b ≡ true) }
+    ensures turn { TurnBy found.now wanted.now queue.old queue.new fresh.old fresh.new a b result }
+    ensures kept { (queue.new.done ≡ queue.old.done) × (fresh.new.done ≡ fresh.old.done) }
 {
-    if !crate::pending::meet(behind, a, nexts, b, kin, same, pending, done) {
+    let found_behind = Point {
+        sets: found.behind,
+        set: a,
+    };
+    let wanted_behind = Point {
+        sets: wanted.behind,
+        set: b,
+    };
+    if !queue.meet(found_behind, wanted_behind, found.kin, wanted.same) {
         return false;
     }
-    let c = sheet::row_of_three(x, at, n, a);
-    let kind = c.kind;
-    match kind {
-        4 => {
-            let q = type_heads::acting(s, l, b).q;
-            crate::pending::meet(first, c.q, opens, q, kin, same, pending, done)
+    let c = found.rows.row(a);
+    match c.as_type() {
+        Ty::Label(_, inside) => {
+            let held = type_heads::acting(wanted.sheet, b).q;
+            let found_inside = Point {
+                sets: found.first,
+                set: inside,
+            };
+            let wanted_inside = Point {
+                sets: wanted.first,
+                set: held,
+            };
+            queue.meet(found_inside, wanted_inside, found.kin, wanted.same)
         }
-        8 => {
-            let p = type_heads::stands_for(s, l, c).q;
-            let q = type_heads::acting(s, l, b).q;
-            crate::pending::mark(p, q, fresh, met);
+        Ty::Name(_) => {
+            let inside = type_heads::stands_for(wanted.sheet, c).q;
+            let held = type_heads::acting(wanted.sheet, b).q;
+            fresh.mark(inside, held);
             true
         }
-        0..=3 | 5..=7 | 9..=65535 => true,
+        _ => true,
     }
 }
 
 // Walks the pending pairs until there is none; false at the first place without a rival.
-pub fn walk(
-    s: &[u8],
-    l: Layout,
-    x: &[u8],
-    at: usize,
-    n: usize,
-    first: &Sets,
-    behind: &Sets,
-    kin: &Kin,
-    opens: &Sets,
-    nexts: &Sets,
-    same: &Sets,
-    pending: &mut Sets,
-    done: &mut Sets,
-    fresh: &mut Sets,
-    met: &Sets,
-) -> bool
-    requires laid { Laid s.now l × Lies x.now at 3 n }
-    requires tabled { Tabled (row3 x.now at n) first.now behind.now kin.now s.now opens.now nexts.now same.now }
-    requires queue { Queue pending.old done.old }
-    requires queue_2 { Queue fresh.old met.now }
-    requires like { Like (row3 x.now at n) first.now behind.now kin.now s.now opens.now nexts.now same.now pending.old }
-    ensures { Walked (row3 x.now at n) first.now behind.now kin.now s.now
-        opens.now nexts.now same.now pending.old pending.new done.old
-        done.new fresh.old fresh.new met.now result }
+pub fn walk(found: &Found, wanted: &Wanted, queue: &mut Pairs, fresh: &mut Pairs) -> bool
+    requires tabled { TabledBy found.now wanted.now }
+    requires like { LikeBy found.now wanted.now queue.old.pending }
+    ensures walked { WalkedBy found.now wanted.now queue.old queue.new fresh.old fresh.new result }
+    ensures kept { fresh.new.done ≡ fresh.old.done }
 {
-    let mut a = bits::lowest_both(pending, 0, pending, 0, 1);
-    while a < PLACES {
-        let b = crate::pending::take(a, pending, done);
-        if !turn(
-            s, l, x, at, n, a, b, first, behind, kin, opens, nexts, same, pending, done, fresh, met,
-        ) {
+    while let Some((a, b)) = queue.take() {
+        if !turn(found, wanted, a, b, queue, fresh) {
             return false;
         }
-        a = bits::lowest_both(pending, 0, pending, 0, 1);
     }
     true
 }

@@ -1,16 +1,9 @@
 // 16-bit words, low byte first, in byte slices. Above this crate nobody knows how a word lies in bytes.
 #![tactic(auto)]
 
-ghost use Rattle.std.specs.Prelude.{◌≡◌, List, ◌++◌, ℕ, ◌+◌, ◌*◌, ◌/◌, ◌%◌, ◌<◌, ◌≤◌, length, get_or, take, drop};
+ghost use Rattle.std.specs.Prelude.{◌≡◌, ◌+◌, ◌*◌, ◌<◌, length};
 ghost use Rattle.meaning.specs.Words.{word_at, zeroed};
 ghost use Rattle.words.specs.Puts.{put_word};
-
-pub fn wide(x: u8) -> usize
-    ensures value { result ≡ x }
-    ensures upper_bound { result < 256 }
-{
-    x as usize
-}
 
 // Word `i` of the bytes `b`, all of it there.
 pub fn word_in(b: &[u8], i: usize) -> usize
@@ -18,7 +11,7 @@ pub fn word_in(b: &[u8], i: usize) -> usize
     ensures is { result ≡ word_at b.now i }
     ensures small { result < 65536 }
 {
-    wide(b[2 * i]) + 256 * wide(b[2 * i + 1])
+    usize::from(u16::from_le_bytes([b[2 * i], b[2 * i + 1]]))
 }
 
 // Word `i` of the bytes `b`; what lies past their end reads as 0.
@@ -31,13 +24,14 @@ pub fn word_at(b: &[u8], i: usize) -> usize
     if at + 1 < b.len() {
         return word_in(b, i);
     }
-    if b.len() <= at {
-        return 0;
+    match b.get(at) {
+        Some(low) => usize::from(*low),
+        None => 0,
     }
-    wide(b[at])
 }
 
-// Sets word `i` of the bytes `b` to `v`.
+// Sets word `i` of the bytes `b` to `v`, of which the low 16 bits count.
+// `to_le_bytes` is no plainer here: it asks for `v % 65536` as a u16.
 pub fn put_word(b: &mut [u8], i: usize, v: usize)
     requires { 2 * i + 1 < length b.old }
     ensures { b.new ≡ put_word b.old i v }
@@ -50,9 +44,5 @@ pub fn put_word(b: &mut [u8], i: usize, v: usize)
 pub fn zero(b: &mut [u8])
     ensures { b.new ≡ zeroed b.old }
 {
-    let mut i = 0;
-    while i < b.len() {
-        b[i] = 0;
-        i += 1;
-    }
+    b.fill(0)
 }

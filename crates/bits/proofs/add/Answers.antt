@@ -3,4 +3,4 @@ use Rattle.bits.proofs.Stores.{added}
 use Rattle.bits.proofs.add.Goals as goal
 
 pub returns : goal.returns
-returns c = added c.args.t.now c.args.k c.args.i c.requires.t_len c.requires.k_bound.0 c.requires.k_bound.1 c.power.result c.power.ensures
+returns c = added c.args.t.now c.args.k c.args.i c.told-t c.requires.0 c.requires.1 c.power.result c.power.ensures

@@ -1,12 +1,8 @@
-use Rattle.std.proofs.Common.{rules}
-use Rattle.bits.proofs.Stores.{united_none, united_all, united_more_in}
+-- `bits::unite_in` meets its contract: the words that it hands over are those of set j (proofs/Stores.antt).
+use Prim.Native.Nat.{◌+◌, ◌-◌, ◌*◌}
+use native.Mathlib.Omega.{arith}
+use Rattle.bits.proofs.Stores.{united_words}
 use Rattle.bits.proofs.unite_in.Goals as goal
 
-pub loop-w-init : goal.loop-w-init
-loop-w-init c = (search rules, united_none c.args.t.now c.args.k c.args.t.now c.args.j)
-
-pub loop-w-preserved : goal.loop-w-preserved
-loop-w-preserved c = (search rules, united_more_in c.requires.t_len c.requires.k_bound.0 c.loop-w-test.true c.loop-w.invariant.1)
-
 pub returns : goal.returns
-returns c = united_all c.loop-w-test.false c.loop-w.invariant.1
+returns c = united_words {n = 9 * c.args.j + 9 - 9 * c.args.j} _ c.copy_from_slice.ensures.after (omega arith) c.unite_words.ensures

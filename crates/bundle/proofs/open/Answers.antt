@@ -18,21 +18,21 @@ returns-then-n-ne0 c = record { by = uneven c.args.b.now c.if-n-ne0.true }
 pub returns-then-m-eq0 : goal.returns-then-m-eq0
 returns-then-m-eq0 c = record { by = no_block c.args.b.now c.if-m-eq0.true }
 
-pub returns-then-m-gt88 : goal.returns-then-m-gt88
-returns-then-m-gt88 c = record { by = too_many c.args.b.now c.if-m-gt88.true }
+pub returns-then-m-gt-MOST : goal.returns-then-m-gt-MOST
+returns-then-m-gt-MOST c = record { by = too_many c.args.b.now c.if-m-gt-MOST.true }
 
 pub returns-then-not-blocks_ok : goal.returns-then-not-blocks_ok
 returns-then-not-blocks_ok c = record { by = wrong_block c.args.b.now (sym c.blocks_ok.ensures ∙ c.if-not-blocks_ok.true) }
 
-pub returns-then-m-need : goal.returns-then-m-need
-returns-then-m-need c = record { by = miscounted (unpacked c.args.b.now c.args.out.now c.unpack.new.out c.unpack.ensures c.unpack.auto.out (omega (arith, c.unpack-arg-1.given)) c.need_in-need.ensures.value) c.if-m-need.true }
+pub returns-then-m-blocks_for : goal.returns-then-m-blocks_for
+returns-then-m-blocks_for c = record { by = miscounted (unpacked c.args.b.now c.args.out.now c.unpack.new.out c.unpack.ensures c.unpack.auto.out (omega arith) c.need_in-need.ensures.value) (λ e. c.if-m-blocks_for.true (e ∙ sym c.blocks_for.ensures)) }
 
 pub returns-then-not-all_zero : goal.returns-then-not-all_zero
-returns-then-not-all_zero c = record { by = padded (unpacked c.args.b.now c.args.out.now c.unpack.new.out c.unpack.ensures c.unpack.auto.out (omega (arith, c.unpack-arg-1.given)) c.need_in-need.ensures.value) c.all_zero.ensures (c.if-not-all_zero.true) }
+returns-then-not-all_zero c = record { by = padded (unpacked c.args.b.now c.args.out.now c.unpack.new.out c.unpack.ensures c.unpack.auto.out (omega arith) c.need_in-need.ensures.value) c.all_zero.ensures (c.if-not-all_zero.true) }
 
 pub returns : goal.returns
 returns c =
     record {
-      by = is_framed (unpacked c.args.b.now c.args.out.now c.unpack.new.out c.unpack.ensures c.unpack.auto.out (omega (arith, c.unpack-arg-1.given)) c.need_in-need.ensures.value) c.if-n-ne0.false c.if-m-eq0.false c.if-m-gt88.false
-          (sym c.blocks_ok.ensures ∙ c.if-not-blocks_ok.false) c.if-m-need.false c.all_zero.ensures (c.if-not-all_zero.false);
+      by = is_framed (unpacked c.args.b.now c.args.out.now c.unpack.new.out c.unpack.ensures c.unpack.auto.out (omega arith) c.need_in-need.ensures.value) c.if-n-ne0.false c.if-m-eq0.false c.if-m-gt-MOST.false
+          (sym c.blocks_ok.ensures ∙ c.if-not-blocks_ok.false) (c.if-m-blocks_for.false ∙ c.blocks_for.ensures) c.all_zero.ensures (c.if-not-all_zero.false);
     }

@@ -1,25 +1,17 @@
-use mathlib.Core.Path.{refl, sym, ◌∙◌}
-use native.Mathlib.Omega.{arith}
-use Rattle.bundle_blocks.proofs.Reading.{zero_more, zero_not, zero_end}
+-- `bundle_blocks::all_zero` meets its contract: it tests each byte of that part.
+use mathlib.Core.Path.{sym, ◌∙◌}
+use borrow.Author.Tests.{tests}
+use lib.Dec.{eqb}
+use lib.ListN.{take, drop}
+use Rattle.std.proofs.Common.{rules}
+use Rattle.std.proofs.lemmas.Iterator.{YieldsList-from_slice}
+use Rattle.std.proofs.lemmas.Iterator.Adapters.{YieldsList-from_skip}
+use Rattle.std.proofs.lemmas.Iterator.Search.{all_from_yields_List}
+use Rattle.bundle_blocks.proofs.Reading.{zero_all}
 use Rattle.bundle_blocks.proofs.all_zero.Goals as goal
 
-pub loop-i-init : goal.loop-i-init
-loop-i-init c = refl
-
-pub bounds-p-i : goal.bounds-p-i
-bounds-p-i c = omega arith
-
-pub returns-then-p-i-ne0 : goal.returns-then-p-i-ne0
-returns-then-p-i-ne0 c = sym (c.loop-i.invariant ∙ zero_not c.args.p.now c.loop-i.i c.args.to c.requires c.loop-i-test.true c.if-p-i-ne0.true)
-
-pub overflow_add-i : goal.overflow_add-i
-overflow_add-i c = omega arith
-
-pub loop-i-smaller : goal.loop-i-smaller
-loop-i-smaller c = omega arith
-
-pub loop-i-preserved : goal.loop-i-preserved
-loop-i-preserved c = c.loop-i.invariant ∙ zero_more c.args.p.now c.loop-i.i c.args.to c.requires c.loop-i-test.true c.if-p-i-ne0.false
-
 pub returns : goal.returns
-returns c = sym (c.loop-i.invariant ∙ zero_end c.args.p.now c.loop-i.i c.args.to c.requires c.loop-i-test.false)
+returns c =
+    let part = drop c.args.from (take c.args.to c.args.p.now) in
+    all_from_yields_List (λ x. eqb x 0) _ _ _ c.all.ensures.ran (YieldsList-from_skip c.args.from (YieldsList-from_slice (take c.args.to c.args.p.now) cc) cc) (λ x b q k. search (rules, tests))
+    ∙ sym (zero_all part)

@@ -1,13 +1,10 @@
 -- `bundle_blocks::unpack` meets its contract: after k turns the payload of k blocks stands in front.
 use mathlib.Core.Path.{◌≡◌}
-use Prim.Native.Nat.{◌*◌, ◌-◌, ◌≤◌}
+use Prim.Native.Nat.{◌*◌}
 use mathlib.Core.List.{◌++◌}
-use lib.ListN.{length, drop}
+use lib.ListN.{drop}
 use Rattle.meaning.specs.Bundle.{payload}
 use Rattle.bundle_blocks.proofs.unpack.Given as goal
 
 abbrev pub invariant-loop-k : goal.invariant-loop-k
-invariant-loop-k l = (l.k ≤ l.m) × (l.out ≡ payload l.k l.b ++ drop (508 * l.k) l.initial.out) × (length l.out ≡ length l.initial.out)
-
-abbrev pub decreases-loop-k : goal.decreases-loop-k
-decreases-loop-k l = l.m - l.k
+invariant-loop-k l = l.out ≡ payload l.k l.b ++ drop (508 * l.k) l.initial.out

@@ -1,5 +1,5 @@
 -- `calls::chukelowa_apply` meets its contract: refused by the reader, or asked of the sheet that it read.
-use mathlib.Core.Path.{sym}
+use mathlib.Core.Path.{sym, refl}
 use native.Mathlib.Omega.{arith}
 use lib.Seq.{length-take-le}
 use Rattle.bundle.specs.Reads.{read_held}
@@ -7,14 +7,14 @@ use Rattle.calls.specs.Asked.{apply_refused, apply_asked}
 use Rattle.calls.proofs.Reading.{roomy}
 use Rattle.calls.proofs.chukelowa_apply.Goals as goal
 
-pub returns-in_default : goal.returns-in_default
-returns-in_default c = apply_refused c.args.bundle.now _ c.read-answer.ensures roomy c.in_default.not-Done c.refused.ensures.0 c.args.work.now c.args.res.now c.refused.ensures.1
+pub returns-in-Err : goal.returns-in-Err
+returns-in-Err c = apply_refused c.args.bundle.now _ c.in-Err.why c.in-Err.ensures roomy c.refused.ensures.0 c.args.work.now c.args.res.now c.refused.ensures.1
 
 pub slice_bounds-tables-end : goal.slice_bounds-tables-end
-slice_bounds-tables-end c = omega (arith, c.need_of-need.ensures.is, (read_held _ _ c.read-answer.ensures c.in-Done.is).is_long)
+slice_bounds-tables-end c = omega (arith, c.need_of-need.ensures.is, (read_held _ _ c.in-Ok.ensures refl).is_long)
 
 pub slice_bounds-apply-end : goal.slice_bounds-apply-end
-slice_bounds-apply-end c = sym (length-take-le _ _ (omega (arith, c.need_of-need.ensures.is, (read_held _ _ c.read-answer.ensures c.in-Done.is).is_long)))
+slice_bounds-apply-end c = sym (length-take-le _ _ (omega (arith, c.need_of-need.ensures.is, (read_held _ _ c.in-Ok.ensures refl).is_long)))
 
-pub returns : goal.returns
-returns c = apply_asked (read_held _ _ c.read-answer.ensures c.in-Done.is) c.need_of-need.ensures.is c.args.work.now c.args.res.now c.apply.result c.apply.ensures c.applied.ensures
+pub returns-in-Ok : goal.returns-in-Ok
+returns-in-Ok c = apply_asked (read_held _ _ c.in-Ok.ensures refl) c.need_of-need.ensures.is c.args.work.now c.args.res.now c.apply.result c.apply.ensures c.applied.ensures

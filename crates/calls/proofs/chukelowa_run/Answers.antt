@@ -1,5 +1,5 @@
 -- `calls::chukelowa_run` meets its contract: refused by the reader, or asked of the sheet that it read.
-use mathlib.Core.Path.{sym}
+use mathlib.Core.Path.{sym, refl}
 use native.Mathlib.Omega.{arith}
 use lib.Seq.{length-take-le}
 use Rattle.bundle.specs.Reads.{read_held}
@@ -7,14 +7,14 @@ use Rattle.calls.specs.Asked.{run_refused, run_asked}
 use Rattle.calls.proofs.Reading.{roomy}
 use Rattle.calls.proofs.chukelowa_run.Goals as goal
 
-pub returns-in_default : goal.returns-in_default
-returns-in_default c = run_refused c.args.bundle.now _ c.read-answer.ensures roomy c.in_default.not-Done c.refused.ensures.0 c.args.work.now c.args.res.now c.refused.ensures.1
+pub returns-in-Err : goal.returns-in-Err
+returns-in-Err c = run_refused c.args.bundle.now _ c.in-Err.why c.in-Err.ensures roomy c.refused.ensures.0 c.args.work.now c.args.res.now c.refused.ensures.1
 
 pub slice_bounds-tables-end : goal.slice_bounds-tables-end
-slice_bounds-tables-end c = omega (arith, c.need_of-need.ensures.is, (read_held _ _ c.read-answer.ensures c.in-Done.is).is_long)
+slice_bounds-tables-end c = omega (arith, c.need_of-need.ensures.is, (read_held _ _ c.in-Ok.ensures refl).is_long)
 
 pub slice_bounds-run-end : goal.slice_bounds-run-end
-slice_bounds-run-end c = sym (length-take-le _ _ (omega (arith, c.need_of-need.ensures.is, (read_held _ _ c.read-answer.ensures c.in-Done.is).is_long)))
+slice_bounds-run-end c = sym (length-take-le _ _ (omega (arith, c.need_of-need.ensures.is, (read_held _ _ c.in-Ok.ensures refl).is_long)))
 
-pub returns : goal.returns
-returns c = run_asked (read_held _ _ c.read-answer.ensures c.in-Done.is) c.need_of-need.ensures.is c.args.work.now c.args.res.now c.run.result c.run.ensures c.ran.ensures
+pub returns-in-Ok : goal.returns-in-Ok
+returns-in-Ok c = run_asked (read_held _ _ c.in-Ok.ensures refl) c.need_of-need.ensures.is c.args.work.now c.args.res.now c.run.result c.run.ensures c.ran.ensures

@@ -1,47 +1,23 @@
 -- `check_query::two_texts` meets its contract: two questions, in order.
-use native.Mathlib.Omega.{arith}
-use mathlib.Core.Path.{refl}
-use Rattle.type_rows.specs.Finds.{finds_halt}
+use Rattle.type_rows.specs.Finds.{finds_err}
 use Rattle.type_rows.specs.Both.{asks_bool}
-use Rattle.sheet.specs.Whole.{whole_loads}
-use Rattle.check_query.proofs.Laws.{first_wide, first_fails, second_wide, second_fails, texts_found}
+use Rattle.check_query.proofs.Laws.{texts_halt, texts_found}
 use Rattle.check_query.proofs.two_texts.Goals as goal
 
-pub plain-requires : goal.plain-requires
-plain-requires c = record { loads = c.requires.0; grows = (c.requires.1.grows, c.requires.2, omega (arith, c.requires.2, c.requires.1.small)); le_kind = (omega arith, omega arith) }
+pub must_be-requires : goal.must_be-requires
+must_be-requires c = (c.requires.0, c.requires.1, c.requires.2)
 
-pub plain-requires-in-Holds : goal.plain-requires-in-Holds
-plain-requires-in-Holds c = record { loads = c.requires.0; grows = (c.requires.1.grows, c.requires.3, omega (arith, c.requires.3, c.requires.1.small)); le_kind = (omega arith, omega arith) }
+pub must_be-requires-2 : goal.must_be-requires-2
+must_be-requires-2 c = (c.requires.0, c.requires.1, c.requires.3)
 
 pub write-requires : goal.write-requires
-write-requires c = asks_bool (whole_loads c.requires.0) c.requires.1
+write-requires c = asks_bool c.requires.1
 
-pub shape_of-work-in-Wide : goal.shape_of-work-in-Wide
-shape_of-work-in-Wide c = refl
+pub returns-in_err-must_be : goal.returns-in_err-must_be
+returns-in_err-must_be c = finds_err c.from_residual.ensures.1 (c.in_err-must_be.ensures.by _)
 
-pub returns-in-Wide : goal.returns-in-Wide
-returns-in-Wide c = finds_halt (first_wide c.args.s.now c.args.work.now c.args.used c.args.at c.args.x c.args.y c.plain.ensures _ c.in-Wide.is)
+pub returns-in_err-must_be-2 : goal.returns-in_err-must_be-2
+returns-in_err-must_be-2 c = finds_err c.from_residual-in_err-must_be-2.ensures.1 (texts_halt c.args.s.now c.args.work.now c.args.left.used c.args.at c.args.x c.args.y c.in_ok-must_be.ensures.by c.in_err-must_be-2.ensures.by)
 
-pub shape_of-work-in-Fails : goal.shape_of-work-in-Fails
-shape_of-work-in-Fails c = refl
-
-pub returns-in-Fails : goal.returns-in-Fails
-returns-in-Fails c = finds_halt (first_fails c.args.s.now c.args.work.now c.args.used c.args.at c.args.x c.args.y c.plain.ensures _ c.in-Fails.is)
-
-pub shape_of-work-in-Wide-plain : goal.shape_of-work-in-Wide-plain
-shape_of-work-in-Wide-plain c = refl
-
-pub returns-in-Wide-plain : goal.returns-in-Wide-plain
-returns-in-Wide-plain c = finds_halt (second_wide c.args.s.now c.args.work.now c.args.used c.args.at c.args.x c.args.y c.plain.ensures c.in-Holds.is c.plain-in-Holds.ensures _ c.in-Wide-plain.is)
-
-pub shape_of-work-in-Fails-plain : goal.shape_of-work-in-Fails-plain
-shape_of-work-in-Fails-plain c = refl
-
-pub returns-in-Fails-plain : goal.returns-in-Fails-plain
-returns-in-Fails-plain c = finds_halt (second_fails c.args.s.now c.args.work.now c.args.used c.args.at c.args.x c.args.y c.plain.ensures c.in-Holds.is c.plain-in-Holds.ensures _ c.in-Fails-plain.is)
-
-pub shape_of-work-in-Holds-plain : goal.shape_of-work-in-Holds-plain
-shape_of-work-in-Holds-plain c = c.write.auto.work
-
-pub returns-in-Holds-plain : goal.returns-in-Holds-plain
-returns-in-Holds-plain c = texts_found c.args.s.now c.args.work.now c.args.used c.args.at c.args.x c.args.y c.plain.ensures c.in-Holds.is c.plain-in-Holds.ensures c.in-Holds-plain.is c.write.ensures
+pub returns : goal.returns
+returns c = texts_found c.args.s.now c.args.work.now c.args.left.used c.args.at c.args.x c.args.y c.in_ok-must_be.ensures.by c.in_ok-must_be-2.ensures.by c.write.ensures

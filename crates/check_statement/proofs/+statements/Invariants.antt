@@ -10,8 +10,8 @@ decreases-choose l = 70000 * l.depth + 2
 abbrev pub decreases-either : goal.decreases-either
 decreases-either l = 70000 * l.depth + 1
 
-abbrev pub decreases-left : goal.decreases-left
-decreases-left l = 70000 * l.depth + 1
+abbrev pub decreases-put_left : goal.decreases-put_left
+decreases-put_left l = 70000 * l.depth + 1
 
 abbrev pub decreases-let_in : goal.decreases-let_in
 decreases-let_in l = 70000 * l.depth + 1
@@ -22,8 +22,8 @@ decreases-pair l = 70000 * l.depth + 1
 abbrev pub decreases-parts : goal.decreases-parts
 decreases-parts l = 70000 * l.depth + 2 + l.of
 
-abbrev pub decreases-right : goal.decreases-right
-decreases-right l = 70000 * l.depth + 1
+abbrev pub decreases-put_right : goal.decreases-put_right
+decreases-put_right l = 70000 * l.depth + 1
 
 abbrev pub decreases-snapshot : goal.decreases-snapshot
 decreases-snapshot l = 70000 * l.depth + 1

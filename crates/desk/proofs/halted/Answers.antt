@@ -1,24 +1,10 @@
 -- `desk::halted` meets its contract: the units are what the purse no longer holds.
-use mathlib.Core.Path.{refl, subst}
-use Prim.Native.Nat.{◌≤◌}
+use Rattle.std.proofs.Common.{refl, subst}
 use Rattle.meaning.specs.Sheet.{script_of, sheet_of}
 use Rattle.meaning.specs.Check.{check_walk}
 use Rattle.type_rows.specs.Finds.{Halted}
-use Rattle.type_rows.specs.declared.Halt.{Halt}
-use Rattle.desk.specs.Checking.{left_in_halt, halt_fuel, halt_depth, halt_wide, halt_mismatch, halt_outside}
+use Rattle.desk.specs.Checking.{halt_fuel, halt_depth, halt_wide, halt_mismatch, halt_outside}
 use Rattle.desk.proofs.halted.Goals as goal
-
-pub spent-requires : goal.spent-requires
-spent-requires c = subst (λ (w : Halt). left_in_halt w ≤ c.args.fuel) c.in-Depth.is c.requires
-
-pub spent-requires-in-Wide : goal.spent-requires-in-Wide
-spent-requires-in-Wide c = subst (λ (w : Halt). left_in_halt w ≤ c.args.fuel) c.in-Wide.is c.requires
-
-pub spent-requires-in-Mismatch : goal.spent-requires-in-Mismatch
-spent-requires-in-Mismatch c = subst (λ (w : Halt). left_in_halt w ≤ c.args.fuel) c.in-Mismatch.is c.requires
-
-pub spent-requires-in-Outside : goal.spent-requires-in-Outside
-spent-requires-in-Outside c = subst (λ (w : Halt). left_in_halt w ≤ c.args.fuel) c.in-Outside.is c.requires
 
 pub returns-in-Fuel : goal.returns-in-Fuel
 returns-in-Fuel c = λ s lent b e h. halt_fuel b e (subst (Halted (check_walk (script_of s)) s (sheet_of s).check_fuel) c.in-Fuel.is h) refl

@@ -3,7 +3,7 @@ use Rattle.fit.proofs.Whole.{walked, of_type}
 use Rattle.fit.proofs.of_type.Goals as goal
 
 pub trees-requires : goal.trees-requires
-trees-requires c = (c.requires.told.ready, walked c.requires.told c.requires.wired)
+trees-requires c = (c.requires.told.ready, rw c.root.ensures (walked c.requires.told c.requires.wired))
 
 pub returns : goal.returns
-returns c = of_type c.requires.told c.trees.result c.trees.ensures
+returns c = of_type c.requires.told c.trees.result (rw c.root.ensures at c.trees.ensures)

@@ -3,20 +3,15 @@ use native.Mathlib.Omega.{arith}
 use Rattle.meaning.specs.Forest.{count, forest_at}
 use Rattle.meaning.specs.Walk.{ret}
 use Rattle.meaning.specs.Theorems.ReadBack.{lent_row}
-use Rattle.walk.specs.Purse.{paid_left, paid_fuel}
-use Rattle.walk.specs.Meets.{stop_pay}
-use Rattle.forest_rows.specs.Asks.{readable}
-use Rattle.forest_rows.proofs.Leaves.{front_asks, wrote_done}
+use Rattle.walk.specs.Meets.{stop_pay, met_exit}
+use Rattle.forest_rows.proofs.Leaves.{copy_asks, wrote_done}
 use Rattle.forest_rows.proofs.front.Goals as goal
 
-pub trees-n-requires : goal.trees-n-requires
-trees-n-requires c = readable c.args.a c.requires.0 c.requires.1
+pub copy-root-requires : goal.copy-root-requires
+copy-root-requires c = copy_asks _ c.requires.0 c.requires.1 c.requires.2 c.trees-n.ensures c.in_ok-purse.ensures.by
 
-pub join-g-requires : goal.join-g-requires
-join-g-requires c = front_asks _ c.requires.0 c.requires.1 c.requires.2 c.trees-n.ensures (paid_left c.in-Left.is c.pay.ensures)
+pub returns-in_err-purse : goal.returns-in_err-purse
+returns-in_err-purse c = λ byte. met_exit _ c.from_residual.ensures.1 (stop_pay (count (forest_at byte (lent_row c.args.rows.now) c.args.a)) (ret _) c.args.left.purse.left (omega (arith, c.in_err-purse.ensures.by, c.trees-n.ensures byte)))
 
-pub returns-in-Fuel : goal.returns-in-Fuel
-returns-in-Fuel c = λ byte. record { by = stop_pay (count (forest_at byte (lent_row c.args.rows.now) c.args.a)) (ret _) c.args.purse.left (omega (arith, paid_fuel c.in-Fuel.is c.pay.ensures, c.trees-n.ensures byte)) }
-
-pub returns-in-Left : goal.returns-in-Left
-returns-in-Left c = λ byte. record { by = wrote_done byte _ (c.join-g.ensures byte) (c.trees-n.ensures byte) (paid_left c.in-Left.is c.pay.ensures) }
+pub returns : goal.returns
+returns c = λ byte. record { by = wrote_done byte _ (c.copy-root.ensures byte) (c.trees-n.ensures byte) c.in_ok-purse.ensures.by }

@@ -1,6 +1,6 @@
 -- `forest_rows::gather` meets its contract: the links are gone through from the last, each result set before what is gathered.
 use Rattle.forest_rows.specs.Rows.{GatherAsks}
-use Rattle.forest_rows.proofs.Copy.{Going}
+use Rattle.forest_rows.proofs.Copies.{Going}
 use Rattle.forest_rows.proofs.gather.Given as goal
 
 abbrev pub invariant-loop-at : goal.invariant-loop-at

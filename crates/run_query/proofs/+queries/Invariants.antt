@@ -12,7 +12,7 @@ abbrev pub decreases-each : goal.decreases-each
 decreases-each l = 4 * l.depth + 2
 
 abbrev pub invariant-each-loop-at : goal.invariant-each-loop-at
-invariant-each-loop-at l = (Looping (body_asked l.s l.initial.rows l.scope l.depth l.body) (pool l.s) l.initial.rows l.rows l.used l.over l.initial.rest.left l.at l.link l.n l.rest.left) × (length l.rows ≡ length l.initial.rows)
+invariant-each-loop-at l = (Looping (body_asked l.s l.initial.rows l.scope l.depth l.body) (pool l.s) l.initial.rows l.rows l.initial.links.left.used l.over l.initial.links.left.purse.left l.at l.links.root l.links.left.used l.links.left.purse.left) × (length l.rows ≡ length l.initial.rows)
 
 abbrev pub decreases-each-loop-at : goal.decreases-each-loop-at
 decreases-each-loop-at l = l.at

@@ -5,7 +5,7 @@ use Rattle.std.proofs.Common.{ℕ, List, ◌≡◌, ◌<◌}
 use Rattle.meaning.specs.Sheet.{Cells}
 use Rattle.meaning.specs.Theorems.ReadBack.{lent_row}
 use Rattle.forest_rows.specs.Rows.{Readable}
-use Rattle.run_result.specs.Trees.{root_some, TreeAt, next_low, child_low}
+use Rattle.run_result.specs.Trees.{root_some, TreeAt, child_low}
 use Rattle.run_result.specs.Written.{written_none, writing_begins, own_row_lem, own_room, child_writable, writing_more, writing_ends}
 use Rattle.run_result.proofs.+write.Goals as goal
 
@@ -16,17 +16,8 @@ tree h some e = record { readable = h; some = some; is = e }
 pub loop-r-init : goal.loop-r-init
 loop-r-init t c = writing_begins c.requires
 
-pub row-c-requires : goal.row-c-requires
-row-c-requires t c = (omega arith, c.loop-r.invariant.readable.small, c.loop-r.invariant.readable.there)
-
-pub child-q-requires : goal.child-q-requires
-child-q-requires t c = tt
-
 pub overflow_sub-n : goal.overflow_sub-n
 overflow_sub-n t c = own_row_lem c.loop-r.invariant (tree c.loop-r.invariant.readable (omega arith) c.row-c.ensures.is)
-
-pub root_row-requires : goal.root_row-requires
-root_row-requires t c = tt
 
 pub put_tree-requires : goal.put_tree-requires
 put_tree-requires t c =
@@ -38,16 +29,10 @@ write-below-requires t c =
     let x = tree c.loop-r.invariant.readable (omega arith) c.row-c.ensures.is in
     rw c.child-q.ensures (omega (arith, c.loop-r.invariant.within, child_low x), child_writable c.loop-r.invariant x)
 
-pub root_row-requires-else-q-eq0 : goal.root_row-requires-else-q-eq0
-root_row-requires-else-q-eq0 t c = tt
-
 pub put_tree-requires-else-q-eq0 : goal.put_tree-requires-else-q-eq0
 put_tree-requires-else-q-eq0 t c =
     let x = tree c.loop-r.invariant.readable (omega arith) c.row-c.ensures.is in
     omega (arith, own_row_lem c.loop-r.invariant x, own_room c.loop-r.invariant x, c.write-below.auto.res)
-
-pub loop-r-smaller-then-q-eq0 : goal.loop-r-smaller-then-q-eq0
-loop-r-smaller-then-q-eq0 t c = next_low (tree c.loop-r.invariant.readable (omega arith) c.row-c.ensures.is)
 
 pub loop-r-preserved-then-q-eq0 : goal.loop-r-preserved-then-q-eq0
 loop-r-preserved-then-q-eq0 t c =
@@ -55,18 +40,12 @@ loop-r-preserved-then-q-eq0 t c =
     let none = rw c.child-q.ensures at c.if-q-eq0.true in
     writing_more c.loop-r.invariant x (omega (arith, own_row_lem c.loop-r.invariant x)) (written_none _ _ _ _ none) (rw none) c.root_row.ensures c.put_tree.ensures c.put_tree.auto.res
 
-pub loop-r-smaller : goal.loop-r-smaller
-loop-r-smaller t c = next_low (tree c.loop-r.invariant.readable (omega arith) c.row-c.ensures.is)
-
 pub loop-r-preserved : goal.loop-r-preserved
 loop-r-preserved t c =
     let x = tree c.loop-r.invariant.readable (omega arith) c.row-c.ensures.is in
     let some = rw c.child-q.ensures at c.if-q-eq0.false in
     writing_more c.loop-r.invariant x (omega (arith, own_row_lem c.loop-r.invariant x)) (rw c.child-q.ensures at c.write-below.ensures) (root_some _ _ some) c.root_row-else-q-eq0.ensures c.put_tree-else-q-eq0.ensures
     (c.put_tree-else-q-eq0.auto.res ∙ c.write-below.auto.res)
-
-pub shape_of-res : goal.shape_of-res
-shape_of-res t c = c.loop-r.invariant.same
 
 pub returns : goal.returns
 returns t c = writing_ends c.loop-r.invariant c.loop-r-test.false

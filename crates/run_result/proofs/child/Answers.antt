@@ -1,14 +1,11 @@
--- `run_result::child` meets its contract, by the kind.
-use native.Mathlib.Omega.{arith}
-use Rattle.meaning.specs.Laws.Tests.{in_table_lem}
-use Rattle.sheet.specs.Laid.{outside_low, outside_high}
+-- `run_result::child` meets its contract: a text or a bool has none.
+use mathlib.Core.Path.{◌∙◌}
+use Rattle.sheet.specs.Laid.{cells_of}
+use Rattle.forest_rows.specs.Table.{said_node, said_leaf}
 use Rattle.run_result.proofs.child.Goals as goal
 
-pub returns-in-1-to-3 : goal.returns-in-1-to-3
-returns-in-1-to-3 c = rw (in_table_lem 3 c.args.c.kind (omega arith) (omega arith))
+pub returns-in-Node : goal.returns-in-Node
+returns-in-Node c = let e = said_node (cells_of c.args.c) c.in-Node.ensures in rw (e.0, e.2)
 
-pub returns-in-0 : goal.returns-in-0
-returns-in-0 c = rw (outside_low 3 c.args.c.kind c.in-0.in-0-own.keys1)
-
-pub returns-in-0-2 : goal.returns-in-0-2
-returns-in-0-2 c = rw (outside_high 3 c.args.c.kind c.in-0.if-kind-lt4-own.false)
+pub returns-in_default : goal.returns-in_default
+returns-in_default c = rw (said_leaf (cells_of c.args.c) (λ l q e. c.in_default.not-Node l q (c.as_tree.ensures ∙ e)))

@@ -1,21 +1,18 @@
--- `run_result::put_tree` meets its contract, by the kind.
+-- `run_result::put_tree` meets its contract, by what the tree is.
 use mathlib.Core.Path.{refl}
-use native.Mathlib.Omega.{arith}
-use Rattle.sheet.specs.Laid.{cells_of, outside_low, outside_high}
-use Rattle.run_result.specs.Trees.{row_bool, row_node}
+use Rattle.sheet.specs.Laid.{cells_of}
+use Rattle.forest_rows.specs.Table.{said_text, said_bool, said_node}
+use Rattle.run_result.specs.Trees.{row_node}
 use Rattle.run_result.proofs.put_tree.Goals as goal
-use Rattle.run_result.proofs.put_tree.Goals.{in-0-1, in_default+else-kind-lt4}
 
-pub returns-in-1 : goal.returns-in-1
-returns-in-1 c = rw c.in-1.is c.put_row.ensures
+pub returns-in-Text : goal.returns-in-Text
+returns-in-Text c = let e = said_text (cells_of c.args.c) c.in-Text.ensures in rw e.0 (rw (e.1, e.2) at c.put_row.ensures)
 
-pub returns-in-2-to-3 : goal.returns-in-2-to-3
-returns-in-2-to-3 c =
-    let bool = row_bool (cells_of c.args.c) c.args.c.kind c.args.q c.args.next refl (omega arith) (omega arith) in
-    rw bool c.put_row-in-2-to-3.ensures
+pub returns-in-Bool-false : goal.returns-in-Bool-false
+returns-in-Bool-false c = rw (said_bool (cells_of c.args.c) (rw c.in-Bool-false.field-0-test at c.in-Bool-false.ensures)) c.put_row-in-Bool-false.ensures
 
-pub returns-in-0 : goal.returns-in-0
-returns-in-0 c = rw
-    (row_node (cells_of c.args.c) c.args.c.kind c.args.q c.args.next refl
-    (elim c.in-0-1.branch [ in-0-1 w ↦ outside_low 3 c.args.c.kind w.in-0-1.keys2 | in_default+else-kind-lt4 w ↦ outside_high 3 c.args.c.kind (omega arith) ]))
-    c.put_row-in-0.ensures
+pub returns-in-Bool-true : goal.returns-in-Bool-true
+returns-in-Bool-true c = rw (said_bool (cells_of c.args.c) (rw c.in-Bool-true.field-0-test at c.in-Bool-true.ensures)) c.put_row-in-Bool-true.ensures
+
+pub returns-in-Node : goal.returns-in-Node
+returns-in-Node c = let e = said_node (cells_of c.args.c) c.in-Node.ensures in rw (row_node (cells_of c.args.c) c.args.c.kind c.args.q c.args.next refl e.0) (rw e.1 at c.put_row-in-Node.ensures)

@@ -19,13 +19,13 @@ abbrev pub decreases-iter : goal.decreases-iter
 decreases-iter l = 4 * l.depth + 2
 
 abbrev pub invariant-iter-loop-at : goal.invariant-iter-loop-at
-invariant-iter-loop-at l = (Looping (body_went l.s l.initial.rows l.scope l.depth l.body) (pool l.s) l.initial.rows l.rows l.used l.focus l.initial.rest.left l.at l.link l.n l.rest.left) × (length l.rows ≡ length l.initial.rows)
+invariant-iter-loop-at l = (Looping (body_went l.s l.initial.rows l.scope l.depth l.body) (pool l.s) l.initial.rows l.rows l.initial.links.left.used l.focus l.initial.links.left.purse.left l.at l.links.root l.links.left.used l.links.left.purse.left) × (length l.rows ≡ length l.initial.rows)
 
 abbrev pub decreases-iter-loop-at : goal.decreases-iter-loop-at
 decreases-iter-loop-at l = l.at
 
-abbrev pub decreases-left : goal.decreases-left
-decreases-left l = 4 * l.depth + 1
+abbrev pub decreases-put_left : goal.decreases-put_left
+decreases-put_left l = 4 * l.depth + 1
 
 abbrev pub decreases-let_in : goal.decreases-let_in
 decreases-let_in l = 4 * l.depth + 1
@@ -33,8 +33,8 @@ decreases-let_in l = 4 * l.depth + 1
 abbrev pub decreases-pair : goal.decreases-pair
 decreases-pair l = 4 * l.depth + 1
 
-abbrev pub decreases-right : goal.decreases-right
-decreases-right l = 4 * l.depth + 1
+abbrev pub decreases-put_right : goal.decreases-put_right
+decreases-put_right l = 4 * l.depth + 1
 
 abbrev pub decreases-snapshot : goal.decreases-snapshot
 decreases-snapshot l = 4 * l.depth + 1

@@ -9,8 +9,5 @@ returns-then-focus-ne0 c = insert_stuck c.args.s.now c.args.depth c.requires.ask
 pub query-requires : goal.query-requires
 query-requires c = edits_query c.requires (fits_insert c.args.s.now c.args.depth c.args.scope c.args.p c.requires.asks.scope)
 
-pub shape_of-rows : goal.shape_of-rows
-shape_of-rows c = c.query.auto.rows
-
 pub returns : goal.returns
 returns c = insert_met c.args.s.now c.args.depth c.requires.asks.ready c.args.at c.args.p c.if-focus-ne0.false c.query.ensures.met

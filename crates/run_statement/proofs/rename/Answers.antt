@@ -4,35 +4,16 @@ use native.Mathlib.Omega.{arith}
 use Rattle.meaning.specs.Run.{rename_of}
 use Rattle.meaning.specs.Walk.{of_statement}
 use Rattle.walk.specs.Meets.{met_as}
-use Rattle.forest_rows.specs.Asks.{readable, node_asks, sees_nothing, sees_many, sees_text, sees_bool, sees_node}
-use Rattle.run_statement.proofs.Laws.{met_stuck}
+use Rattle.forest_rows.specs.Asks.{node_asks, sees_node, no_node}
+use Rattle.run_statement.proofs.Laws.{met_stuck, rename_none}
 use Rattle.run_statement.proofs.rename.Goals as goal
 
-pub look-requires : goal.look-requires
-look-requires c = readable _ c.requires.0 c.requires.1
-
 pub make-requires : goal.make-requires
-make-requires c = let n = sees_node c.in-Node.is (c.look.ensures (λ b. 0)) in node_asks _ _ c.requires.0 c.requires.2 (omega (arith, n.inside, c.requires.1))
+make-requires c = let n = sees_node (λ b. 0) c.args.rows.now c.args.focus c.look.result c.in-Some.ensures (c.look.ensures (λ b. 0)) in node_asks _ _ c.requires.0 c.requires.2 (omega (arith, n.inside, c.requires.1))
 
-pub shape_of-rows-in-Node : goal.shape_of-rows-in-Node
-shape_of-rows-in-Node c = c.make.auto.rows
+pub returns-in_default : goal.returns-in_default
+returns-in_default c = λ byte. met_stuck c.args.at _ (rename_none c.args.at c.args.label (no_node byte c.args.rows.now c.args.focus c.look.result c.in_default.ensures (c.look.ensures byte)))
 
-pub returns-in-Node : goal.returns-in-Node
+pub returns : goal.returns
 unfolding rename_of
-returns-in-Node c = λ byte. met_as (ap (rename_of (of_statement c.args.at) c.args.label) (sees_node c.in-Node.is (c.look.ensures byte)).is) (c.make.ensures byte)
-
-pub returns-in-Nothing : goal.returns-in-Nothing
-unfolding rename_of
-returns-in-Nothing c = λ byte. met_stuck c.args.at _ (ap (rename_of (of_statement c.args.at) c.args.label) (sees_nothing c.in-Nothing.is (c.look.ensures byte)))
-
-pub returns-in-Many : goal.returns-in-Many
-unfolding rename_of
-returns-in-Many c = λ byte. met_stuck c.args.at _ (ap (rename_of (of_statement c.args.at) c.args.label) (sees_many c.in-Many.is (c.look.ensures byte)))
-
-pub returns-in-Text : goal.returns-in-Text
-unfolding rename_of
-returns-in-Text c = λ byte. met_stuck c.args.at _ (ap (rename_of (of_statement c.args.at) c.args.label) (sees_text c.in-Text.is (c.look.ensures byte)).is)
-
-pub returns-in-Bool : goal.returns-in-Bool
-unfolding rename_of
-returns-in-Bool c = λ byte. met_stuck c.args.at _ (ap (rename_of (of_statement c.args.at) c.args.label) (sees_bool c.in-Bool.is (c.look.ensures byte)))
+returns c = λ byte. met_as (ap (rename_of (of_statement c.args.at) c.args.label) (sees_node byte c.args.rows.now c.args.focus c.look.result c.in-Some.ensures (c.look.ensures byte)).is) (c.make.ensures byte)

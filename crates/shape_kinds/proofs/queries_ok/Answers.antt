@@ -1,36 +1,10 @@
-use Rattle.std.proofs.lemmas.Bool.{not_from_true, not_from_false}
-use mathlib.Core.Path.{sym, ◌∙◌}
-use native.Mathlib.Omega.{arith}
-use Prim.Native.Nat.{◌+◌}
-use Rattle.meaning.specs.Sheet.{sheet_of}
-use Rattle.meaning.specs.Shape.{query_uses}
-use Rattle.meaning.specs.Laws.Turns.{none_yet, one_more, fails, passes}
-use Rattle.shape_kinds.proofs.RowTests.{turn, query_test, queries_are}
+-- `shape_kinds::queries_ok` meets its contract: its closure is the meaning's test of a row.
+use Rattle.std.proofs.Common.{◌∙◌, rules}
+use Rattle.meaning.specs.Sheet.{sheet_of, script_of}
+use Rattle.meaning.specs.Shape.{queries_ok}
+use Rattle.shape_kinds.specs.Each.{each_row}
 use Rattle.shape_kinds.proofs.queries_ok.Goals as goal
 
-pub loop-i-init : goal.loop-i-init
-loop-i-init c = none_yet (query_test c.args.s.now) c.args.l.queries
-
-pub overflow_add-i : goal.overflow_add-i
-overflow_add-i c = omega (arith, c.requires.few_queries)
-
-pub query_row-c-requires : goal.query_row-c-requires
-query_row-c-requires c = c.requires
-
-pub query_uses-requires : goal.query_uses-requires
-query_uses-requires c = tt
-
-pub row_ok-requires : goal.row_ok-requires
-row_ok-requires c = tt
-
-pub returns-then-not-row_ok : goal.returns-then-not-row_ok
-returns-then-not-row_ok c = sym (queries_are c.requires ∙ fails (query_test c.args.s.now) c.args.l.queries c.loop-i.i c.loop-i-test.true (turn (sheet_of c.args.s.now) 13 query_uses (c.loop-i.i + 1) c.query_row-c.ensures.is c.query_uses.ensures (c.row_ok.ensures c.args.s.now c.requires)) (not_from_false _ c.if-not-row_ok.true))
-
-pub loop-i-smaller : goal.loop-i-smaller
-loop-i-smaller c = omega arith
-
-pub loop-i-preserved : goal.loop-i-preserved
-loop-i-preserved c = one_more (query_test c.args.s.now) c.args.l.queries c.loop-i.i c.loop-i.invariant c.loop-i-test.true (turn (sheet_of c.args.s.now) 13 query_uses (c.loop-i.i + 1) c.query_row-c.ensures.is c.query_uses.ensures (c.row_ok.ensures c.args.s.now c.requires)) (not_from_true _ c.if-not-row_ok.false)
-
 pub returns : goal.returns
-returns c = sym (queries_are c.requires ∙ passes (query_test c.args.s.now) c.args.l.queries c.loop-i.i c.loop-i.invariant c.loop-i-test.false)
+unfolding queries_ok sheet_of script_of
+returns c = each_row _ _ _ _ _ c.new.ensures.start (c.new.ensures.end ∙ c.queries.ensures.is) c.new.ensures.exhausted c.all.ensures.ran (λ x b q k. search rules)

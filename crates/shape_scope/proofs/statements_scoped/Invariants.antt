@@ -1,11 +1,8 @@
 -- `shape_scope::statements_scoped` meets its contract. The loop's invariant: the statements above i pass, and have handed their scopes down (proofs/Loops.antt).
-use Rattle.shape_scope.specs.Scopes.{seen, Words, Statements}
+use Rattle.shape_scope.specs.Scopes.{seen, Statements}
 use Rattle.meaning.specs.Sheet.{script_of}
 use Prim.Native.Nat.{◌≤◌}
 use Rattle.shape_scope.proofs.statements_scoped.Given as goal
 
 abbrev pub invariant-loop-i : goal.invariant-loop-i
-invariant-loop-i l = (l.i ≤ (script_of l.s).statements) × Words l.scopes × Words l.asked × Statements (script_of l.s) l.i (seen l.scopes) (seen l.asked)
-
-abbrev pub decreases-loop-i : goal.decreases-loop-i
-decreases-loop-i l = l.i
+invariant-loop-i l = (l.i ≤ (script_of l.s).statements) × Statements (script_of l.s) l.i (seen l.scopes) (seen l.asked)

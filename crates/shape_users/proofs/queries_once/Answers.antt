@@ -1,12 +1,15 @@
 -- `shape_users::queries_once` meets its contract: what is counted from nothing is the number of users.
-use Rattle.meaning.specs.Shape.{query_users}
-use Rattle.meaning.specs.Sheet.{sheet_of}
-use Rattle.shape_users.proofs.Counts.{then}
-use Rattle.shape_users.proofs.Users.{fresh, counted, query_users_are}
+use Rattle.std.proofs.Common.{rules}
+use Rattle.meaning.specs.Sheet.{sheet_of, script_of}
+use Rattle.meaning.specs.Shape.{own, hits, query_uses, query_users}
+use Rattle.shape_users.proofs.Counts.{then, each_once}
 use Rattle.shape_users.proofs.queries_once.Goals as goal
 
-pub by_queries-requires : goal.by_queries-requires
-by_queries-requires c = record { laid = c.requires.laid; tally = fresh }
-
 pub returns : goal.returns
-returns c = counted (query_users (sheet_of c.args.s.now)) c.args.l.queries c.requires.queries_bound (then c.by_queries.ensures c.by_askers.ensures) (query_users_are c.requires.laid) c.all_one.ensures
+unfolding query_users sheet_of script_of
+returns c =
+    each_once (query_users (sheet_of c.args.s.now)) c.requires c.new-tally.ensures
+    (then
+    (c.each.ensures (λ r i. hits own r (query_uses ((script_of c.args.s.now).query_row i)) ((script_of c.args.s.now).query_row i)) (λ i t u h. search rules))
+    c.by_statements.ensures)
+    (λ r. rw c.queries.ensures.is) c.queries-2.ensures.is c.all_one.ensures

@@ -1,12 +1,13 @@
 -- `shape_users::statements_once` meets its contract: what is counted from nothing is the number of users.
-use Rattle.meaning.specs.Shape.{statement_users}
-use Rattle.meaning.specs.Sheet.{sheet_of}
-use Rattle.shape_users.proofs.Counts.{then}
-use Rattle.shape_users.proofs.Users.{fresh, counted, statement_users_are}
+use Rattle.std.proofs.Common.{rules}
+use Rattle.meaning.specs.Sheet.{sheet_of, script_of}
+use Rattle.meaning.specs.Shape.{hit, statement_users}
+use Rattle.shape_users.proofs.Counts.{then, each_once}
 use Rattle.shape_users.proofs.statements_once.Goals as goal
 
-pub by_statements-requires : goal.by_statements-requires
-by_statements-requires c = record { laid = c.requires.laid; tally = fresh }
-
 pub returns : goal.returns
-returns c = counted (statement_users (sheet_of c.args.s.now)) c.args.l.statements c.requires.statements_bound (then (then c.by_statements.ensures c.by_bodies.ensures) c.refer.ensures) (statement_users_are c.requires.laid) c.all_one.ensures
+unfolding statement_users sheet_of script_of
+returns c =
+    each_once (statement_users (sheet_of c.args.s.now)) c.requires c.new-tally.ensures
+    (then (then c.by_statements.ensures (c.each.ensures (λ r i. hit r ((script_of c.args.s.now).procedure_row i).body) (λ i t u h. search rules))) c.refer.ensures)
+    (λ r. rw (c.procedures.ensures.is, c.main.ensures)) c.statements.ensures.is c.all_one.ensures

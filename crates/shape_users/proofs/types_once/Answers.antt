@@ -1,12 +1,17 @@
 -- `shape_users::types_once` meets its contract: what is counted from nothing is the number of users.
-use Rattle.meaning.specs.Shape.{type_users}
-use Rattle.meaning.specs.Sheet.{sheet_of}
-use Rattle.shape_users.proofs.Counts.{then}
-use Rattle.shape_users.proofs.Users.{fresh, counted, type_users_are}
+use Rattle.std.proofs.Common.{rules}
+use Rattle.meaning.specs.Sheet.{sheet_of, script_of}
+use Rattle.meaning.specs.Shape.{own, hit, hits, procedure_hits, type_uses, type_users}
+use Rattle.shape_users.proofs.Counts.{then, each_once}
 use Rattle.shape_users.proofs.types_once.Goals as goal
 
-pub by_types-requires : goal.by_types-requires
-by_types-requires c = record { laid = c.requires.laid; tally = fresh }
-
 pub returns : goal.returns
-returns c = counted (type_users (sheet_of c.args.s.now)) c.args.l.types c.requires.types_bound (then (then (then (then c.by_types.ensures c.by_names.ensures) c.by_procedures.ensures) c.refer.ensures) c.refer-2.ensures) (type_users_are c.requires.laid) c.all_one.ensures
+unfolding type_users sheet_of script_of
+returns c =
+    each_once (type_users (sheet_of c.args.s.now)) c.requires c.new-tally.ensures
+    (then (then (then (then
+    (c.each.ensures (λ r i. hits own r (type_uses ((script_of c.args.s.now).type_row i)) ((script_of c.args.s.now).type_row i)) (λ i t u h. search rules))
+    (c.each-2.ensures (λ r i. hit r ((script_of c.args.s.now).name_row i)) (λ i t u h. search rules)))
+    (c.each-3.ensures (λ r i. procedure_hits (sheet_of c.args.s.now) r ((script_of c.args.s.now).procedure_row i)) (λ i t u h. search rules)))
+    c.refer.ensures) c.refer-2.ensures)
+    (λ r. rw (c.types.ensures.is, c.names.ensures.is, c.procedures.ensures.is, c.a.ensures, c.b.ensures)) c.types-2.ensures.is c.all_one.ensures

@@ -1,30 +1,28 @@
-use Prim.Native.Nat.{ℕ}
 use native.Mathlib.Omega.{arith}
-use lib.ListN.{length-replicate}
-use Rattle.sheet.specs.Counts.{names_high}
+use Rattle.meaning.specs.Laws.Shaped.{few_names}
 use Rattle.type_barren.specs.Marks.{turned_none, turned_more, turned_up, turned_closed, turned_most, says_lowest, says_none}
 use Rattle.type_barren.proofs.barren.Goals as goal
 
 pub loop-known-init : goal.loop-known-init
-loop-known-init c = (length-replicate {A = ℕ} 513 0, turned_none c.args.s.now)
-
-pub round-requires : goal.round-requires
-round-requires c = record { s_value = c.requires.s_value; laid = c.requires.laid; full_len = (c.loop-known.invariant.0, c.loop-known.invariant.1.size) }
+loop-known-init c = turned_none c.args.s.now
 
 pub count-found-requires : goal.count-found-requires
-count-found-requires c = names_high c.requires.laid {i = c.args.l.names} c.requires.s_value (omega arith)
+count-found-requires c = omega (arith, few_names c.args.s.now c.requires)
 
 pub lowest_unmarked-requires : goal.lowest_unmarked-requires
-lowest_unmarked-requires c = names_high c.requires.laid {i = c.args.l.names} c.requires.s_value (omega arith)
+lowest_unmarked-requires c = omega (arith, few_names c.args.s.now c.requires)
 
 pub returns-then-found-known : goal.returns-then-found-known
-returns-then-found-known c = says_lowest c.requires.laid c.requires.s_value (turned_more c.requires.laid c.loop-known.invariant.1 c.round.ensures.rounding c.count-found.ensures) (turned_closed c.requires.laid c.loop-known.invariant.1 c.round.ensures.rounding c.count-found.ensures c.requires.s_value c.if-found-known.true) c.lowest_unmarked.ensures
+returns-then-found-known c = let n = rw c.names-names.ensures.is at c.count-found.ensures in
+    says_lowest (turned_more c.loop-known.invariant c.round.ensures n) c.lowest_unmarked.result c.requires (turned_closed c.loop-known.invariant c.round.ensures n c.requires c.if-found-known.true)
+    (rw c.names-names.ensures.is at c.lowest_unmarked.ensures)
 
 pub loop-known-smaller : goal.loop-known-smaller
-loop-known-smaller c = omega (arith, turned_up c.requires.laid c.loop-known.invariant.1 c.round.ensures.rounding c.count-found.ensures, turned_most c.requires.laid (turned_more c.requires.laid c.loop-known.invariant.1 c.round.ensures.rounding c.count-found.ensures))
+loop-known-smaller c = let n = rw c.names-names.ensures.is at c.count-found.ensures in
+    omega (arith, turned_up c.loop-known.invariant c.round.ensures n, turned_most (turned_more c.loop-known.invariant c.round.ensures n))
 
 pub loop-known-preserved : goal.loop-known-preserved
-loop-known-preserved c = (c.round.ensures.full_len_2, turned_more c.requires.laid c.loop-known.invariant.1 c.round.ensures.rounding c.count-found.ensures)
+loop-known-preserved c = turned_more c.loop-known.invariant c.round.ensures (rw c.names-names.ensures.is at c.count-found.ensures)
 
 pub returns : goal.returns
-returns c = says_none c.requires.laid c.loop-known.invariant.1 (omega arith)
+returns c = says_none c.loop-known.invariant (omega arith)

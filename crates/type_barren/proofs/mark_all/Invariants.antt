@@ -1,10 +1,6 @@
 -- `type_barren::mark_all` meets its contract. The loop's invariant: the names below x have been looked at.
-use Prim.Native.Nat.{◌≤◌, ◌-◌, ◌+◌}
 use Rattle.type_barren.specs.Marks.{Rounding}
 use Rattle.type_barren.proofs.mark_all.Given as goal
 
 abbrev pub invariant-loop-x : goal.invariant-loop-x
-invariant-loop-x l = (1 ≤ l.x) × (l.x ≤ l.l.names + 1) × Rounding l.s l.initial.marked l.marked l.x
-
-abbrev pub decreases-loop-x : goal.decreases-loop-x
-decreases-loop-x l = l.l.names + 1 - l.x
+invariant-loop-x l = Rounding l.s l.initial.marked l.marked l.x

@@ -1,30 +1,28 @@
 -- `type_tables::judge` meets its contract: Barren, Tie, or the tables as they were made, with End where a row may be empty.
-use Prim.Native.Nat.{ℕ}
 use native.Mathlib.Omega.{arith}
-use lib.ListN.{length-replicate}
+use Rattle.meaning.specs.Laws.Shaped.{few_types}
 use Rattle.type_barren.specs.Flags.{unset}
-use Rattle.sheet.specs.Laid.{types_lie}
-use Rattle.type_ties.specs.Sound.{loads_barren, loads_tie, loads_sound}
-use Rattle.type_tables.specs.Lent.{few_rows, lent_made}
+use Rattle.type_ties.specs.Sound.{loads_barren, loads_tie, loads_sound, rows_are}
+use Rattle.type_tables.specs.Lent.{lent_made}
 use Rattle.type_tables.proofs.judge.Goals as goal
 
-pub returns-then-x-ne0 : goal.returns-then-x-ne0
-returns-then-x-ne0 c = record { loads = loads_barren c.requires.s_value c.barren-x.ensures c.if-x-ne0.true; offered = tt }
+pub returns-in-Some : goal.returns-in-Some
+returns-in-Some c = record { loads = loads_barren c.requires.s_value c.in-Some.ensures; offered = λ z. absurd cc }
 
-pub make-requires : goal.make-requires
-make-requires c = record { s_value = c.requires.s_value; laid = c.requires.laid; null_len = length-replicate {A = ℕ} 513 0; root_len = (length-replicate {A = ℕ} 513 0, unset 513); clear = c.requires.clear; class_value = c.requires.class_value.0 }
+pub make-requires-clause-root_value : goal.make-requires-clause-root_value
+make-requires-clause-root_value c = unset 513
 
-pub tie_in-t-requires : goal.tie_in-t-requires
-tie_in-t-requires c = record { s_value = c.requires.s_value; laid = c.requires.laid; by_index = (_, c.make.ensures) }
-
-pub returns-then-t-ne0 : goal.returns-then-t-ne0
-returns-then-t-ne0 c = record { loads = loads_tie c.requires.s_value c.barren-x.ensures c.if-x-ne0.false c.tie_in-t.ensures c.if-t-ne0.true; offered = tt }
+pub returns-in-Some-tie_in : goal.returns-in-Some-tie_in
+returns-in-Some-tie_in c = record { loads = loads_tie c.requires.s_value c.in_default.ensures c.in-Some-tie_in.ensures; offered = λ z. absurd cc }
 
 pub starts-requires : goal.starts-requires
-starts-requires c = record { low_le_n = (omega arith, few_rows c.requires.laid c.requires.s_value); first_len = c.make.ensures.tables.size }
+starts-requires c = (omega arith, omega (arith, c.types.ensures.is, few_types c.args.s.now c.requires.s_value))
 
-pub kins-requires : goal.kins-requires
-kins-requires c = record { laid = c.requires.laid; lies = (types_lie c.requires.laid, few_rows c.requires.laid c.requires.s_value); low_le_n = (omega arith, λ i a b. absurd (omega arith)); kin_value = c.requires.class_value.1 }
+pub kins-requires-clause-few : goal.kins-requires-clause-few
+kins-requires-clause-few c = omega (arith, rows_are c.type_table.ensures.is, few_types c.args.s.now c.requires.s_value)
 
 pub returns : goal.returns
-returns c = record { loads = loads_sound c.requires.s_value c.barren-x.ensures c.if-x-ne0.false c.tie_in-t.ensures c.if-t-ne0.false; offered = lent_made c.requires.laid c.requires.s_value c.make.ensures c.starts.ensures c.kins.ensures }
+returns c = record {
+  loads = loads_sound c.requires.s_value c.in_default.ensures c.in_default-tie_in.ensures;
+  offered = λ z. lent_made c.requires.s_value c.make.ensures.made c.types.ensures.is c.starts.ensures c.type_table.ensures.is c.kins.ensures;
+}

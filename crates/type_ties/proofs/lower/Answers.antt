@@ -1,23 +1,21 @@
--- `type_ties::lower` meets its contract: case by case.
-use mathlib.Core.Path.{refl}
-use native.Mathlib.Omega.{arith}
-use Rattle.type_ties.specs.Points.{no_found, no_best, found_row, best_row, found_rival, best_rival}
+-- `type_ties::lower` meets its contract: the derived order is by the row, then by the rival.
+use Rattle.std.proofs.Common.{◌≡◌, true, false, arith, inl, inr}
+use Rattle.std.proofs.lemmas.Grind.{common_steps}
+use Rattle.std.specs.Ordering.{is_lt}
+use Rattle.meaning.specs.Laws.Bools.{either}
+use Rattle.type_ties.specs.Points.{Before, found_first, best_first}
+use Rattle.type_ties.specs.declared.Tied.{Tied}
+use Rattle.type_ties.specs.contracts.TiedOrd.TheImpl.{cmp-value}
 use Rattle.type_ties.proofs.lower.Goals as goal
 
-pub returns-then-found-eq0 : goal.returns-then-found-eq0
-returns-then-found-eq0 c = no_found c.if-found-eq0.true refl
+before : (a b : Tied) → is_lt (cmp-value.it a b) ≡ true → Before a b
+before a b h = grind (arith, common_steps)
 
-pub returns-then-best-eq0 : goal.returns-then-best-eq0
-returns-then-best-eq0 c = no_best c.if-best-eq0.true refl
+not_before : (a b : Tied) → is_lt (cmp-value.it a b) ≡ false → Before a b → ⊥
+not_before a b h = grind (arith, common_steps)
 
-pub returns-then-found-best : goal.returns-then-found-best
-returns-then-found-best c = found_row c.if-found-eq0.false c.if-found-best.true refl
-
-pub returns-then-best-found : goal.returns-then-best-found
-returns-then-best-found c = best_row c.if-best-eq0.false c.if-best-found.true refl
-
-pub returns-then-found-best-2 : goal.returns-then-found-best-2
-returns-then-found-best-2 c = found_rival c.if-found-eq0.false (omega (arith, c.if-found-best.false, c.if-best-found.false)) c.if-found-best-2.true refl
-
-pub returns : goal.returns
-returns c = best_rival c.if-best-eq0.false (omega (arith, c.if-found-best.false, c.if-best-found.false)) c.if-found-best-2.false refl
+pub returns-in-Some-Some : goal.returns-in-Some-Some
+returns-in-Some-Some c = let old = c.in-Some-Some.old in let new = c.in-Some-Some.new in elim (either (is_lt (cmp-value.it new old))) [
+  | inl z ↦ (let e : c.min.result ≡ new = rw z at c.min.ensures in found_first c.in-Some-Some.is-0 c.in-Some-Some.is-1 (before new old z) (rw (e, c.in-Some-Some.is-1)))
+  | inr z ↦ (let e : c.min.result ≡ old = rw z at c.min.ensures in best_first c.in-Some-Some.is-0 c.in-Some-Some.is-1 (not_before new old z) (rw (e, c.in-Some-Some.is-0)))
+]

@@ -3,4 +3,4 @@ use Rattle.type_ties.specs.Sound.{says_apart}
 use Rattle.type_ties.proofs.lowest_tie.Goals as goal
 
 pub returns-then-apart : goal.returns-then-apart
-returns-then-apart c = says_apart c.requires.s_value (c.apart.ensures.yes c.if-apart.true)
+returns-then-apart c = says_apart c.requires (c.apart.ensures.yes c.if-apart.true)

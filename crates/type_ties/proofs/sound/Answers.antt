@@ -2,11 +2,11 @@
 use Rattle.type_ties.specs.Sound.{loads_barren, loads_tie, loads_sound}
 use Rattle.type_ties.proofs.sound.Goals as goal
 
-pub returns-then-x-ne0 : goal.returns-then-x-ne0
-returns-then-x-ne0 c = loads_barren c.requires.s_value c.barren-x.ensures c.if-x-ne0.true
+pub returns-in-Some : goal.returns-in-Some
+returns-in-Some c = loads_barren c.requires c.in-Some.ensures
 
-pub returns-then-t-ne0 : goal.returns-then-t-ne0
-returns-then-t-ne0 c = loads_tie c.requires.s_value c.barren-x.ensures c.if-x-ne0.false c.lowest_tie-t.ensures c.if-t-ne0.true
+pub returns-in-Some-lowest_tie : goal.returns-in-Some-lowest_tie
+returns-in-Some-lowest_tie c = loads_tie c.requires c.in_default.ensures c.in-Some-lowest_tie.ensures
 
-pub returns : goal.returns
-returns c = loads_sound c.requires.s_value c.barren-x.ensures c.if-x-ne0.false c.lowest_tie-t.ensures c.if-t-ne0.false
+pub returns-in-None : goal.returns-in-None
+returns-in-None c = loads_sound c.requires c.in_default.ensures c.in-None.ensures

@@ -5,8 +5,5 @@ use Rattle.type_ties.proofs.tie_in.Goals as goal
 pub returns-then-apart : goal.returns-then-apart
 returns-then-apart c = says_apart c.requires.s_value (c.apart.ensures.yes c.if-apart.true)
 
-pub tie-requires : goal.tie-requires
-tie-requires c = record { s_value = c.requires.s_value; laid = c.requires.laid; classes = c.requires.by_index.1.classes }
-
 pub returns : goal.returns
-returns c = says_tie c.requires.laid c.requires.s_value c.requires.by_index.1 c.tie.ensures
+returns c = says_tie c.requires.s_value c.requires.by_index.1 c.tie.ensures

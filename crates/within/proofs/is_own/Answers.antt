@@ -1,18 +1,11 @@
 -- `within::is_own` meets its contract: the same rows are the same type, and it is the one written out.
-use mathlib.Core.Path.{refl, ◌∙◌}
-use mathlib.Core.Bool.{false≢true}
-use native.Mathlib.Omega.{arith}
-use Rattle.within.specs.Short.{own_same}
+use Rattle.std.proofs.Common.{◌≡◌, sym, ◌∙◌, ◌*◌, length, arith}
+use Rattle.std.specs.Cmp.Lexicographic.{same_text}
+use Rattle.within.specs.Short.{drop_same, own_same}
 use Rattle.within.proofs.is_own.Goals as goal
 
-pub write_out-requires : goal.write_out-requires
-write_out-requires c = record { whole = c.requires.whole; grows = c.requires.grows; own_value = refl }
-
-pub returns-then-write_out-low : goal.returns-then-write_out-low
-returns-then-write_out-low c = λ z. absurd (false≢true z)
-
-pub same_rows-requires : goal.same_rows-requires
-same_rows-requires c = omega (arith, c.requires.blank.few)
-
-pub returns : goal.returns
-returns c = λ z. own_same c.requires.blank (rw c.if-write_out-low.false at (c.write_out.ensures.blank (omega (arith, c.if-write_out-low.false, c.requires.blank.few)))) (c.same_rows.ensures z) ∙ (c.write_out.ensures.written (omega (arith, c.if-write_out-low.false, c.requires.blank.few))).same
+pub returns-then-other-own : goal.returns-then-other-own
+returns-then-other-own c = λ z.
+    let long : length c.args.own.now.bytes ≡ 3072 = omega arith in
+    let rows = drop_same (6 * c.args.own.now.low) _ _ long c.in-Ok.ensures.written.size (same_text _ _ (sym z ∙ c.eq.ensures)) in
+    own_same c.args.own.now.blank (rw c.if-other-own.true at c.in-Ok.other.blank) rows ∙ c.in-Ok.ensures.written.same

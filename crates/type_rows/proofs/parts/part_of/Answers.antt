@@ -1,31 +1,30 @@
--- `type_rows::parts::part_of` meets its contract, by the row's kind.
-use Rattle.sheet.specs.Laid.{cells_of}
-use Rattle.type_rows.specs.Parts.{text_part, bool_part, label_part, name_part, seq_part, choice_part, star_part, no_part}
+-- `type_rows::parts::part_of` meets its contract, by what the row says.
+use Rattle.type_rows.specs.Parts.{text_part, bool_part, label_part, name_part, seq_part, choice_part, star_part, none_part, empty_part}
 use Rattle.type_rows.proofs.parts.part_of.Goals as goal
 
-pub row-c-requires : goal.row-c-requires
-row-c-requires c = (c.requires.0, c.requires.1)
+pub returns-in-Text : goal.returns-in-Text
+returns-in-Text c = λ n g h. text_part g c.args.r (c.row.ensures n h) c.in-Text.ensures
 
-pub returns-in-2 : goal.returns-in-2
-returns-in-2 c = λ n g h. text_part g c.args.r (cells_of c.row-c.result) (c.row-c.ensures n h) c.in-2.is
+pub returns-in-Bool : goal.returns-in-Bool
+returns-in-Bool c = λ n g h. bool_part g c.args.r (c.row.ensures n h) c.in-Bool.ensures
 
-pub returns-in-3 : goal.returns-in-3
-returns-in-3 c = λ n g h. bool_part g c.args.r (cells_of c.row-c.result) (c.row-c.ensures n h) c.in-3.is
+pub returns-in-Label : goal.returns-in-Label
+returns-in-Label c = λ n g h. label_part g c.args.r (c.row.ensures n h) c.in-Label.ensures
 
-pub returns-in-4 : goal.returns-in-4
-returns-in-4 c = λ n g h. label_part g c.args.r (cells_of c.row-c.result) (c.row-c.ensures n h) c.in-4.is
+pub returns-in-Name : goal.returns-in-Name
+returns-in-Name c = λ n g h. name_part g c.args.r (c.row.ensures n h) c.in-Name.ensures
 
-pub returns-in-8 : goal.returns-in-8
-returns-in-8 c = λ n g h. name_part g c.args.r (cells_of c.row-c.result) (c.row-c.ensures n h) c.in-8.is
+pub returns-in-Sequence : goal.returns-in-Sequence
+returns-in-Sequence c = λ n g h. seq_part g c.args.r (c.row.ensures n h) c.in-Sequence.ensures
 
-pub returns-in-5 : goal.returns-in-5
-returns-in-5 c = λ n g h. seq_part g c.args.r (cells_of c.row-c.result) (c.row-c.ensures n h) c.in-5.is
+pub returns-in-Choice : goal.returns-in-Choice
+returns-in-Choice c = λ n g h. choice_part g c.args.r (c.row.ensures n h) c.in-Choice.ensures
 
-pub returns-in-6 : goal.returns-in-6
-returns-in-6 c = λ n g h. choice_part g c.args.r (cells_of c.row-c.result) (c.row-c.ensures n h) c.in-6.is
+pub returns-in-Star : goal.returns-in-Star
+returns-in-Star c = λ n g h. star_part g c.args.r (c.row.ensures n h) c.in-Star.ensures
 
-pub returns-in-7 : goal.returns-in-7
-returns-in-7 c = λ n g h. star_part g c.args.r (cells_of c.row-c.result) (c.row-c.ensures n h) c.in-7.is
+pub returns-in-Nothing : goal.returns-in-Nothing
+returns-in-Nothing c = λ n g h. none_part g c.args.r (c.row.ensures n h) c.in-Nothing.ensures
 
-pub returns-in-0-to-1 : goal.returns-in-0-to-1
-returns-in-0-to-1 c = λ n g h. no_part g c.args.r (cells_of c.row-c.result) (c.row-c.ensures n h) c.in-0-to-1.in-0-to-1-own.rest.0.0.0.0.0.0.1 c.in-0-to-1.in-0-to-1-own.rest.0.0.0.0.0.1 c.in-0-to-1.in-0-to-1-own.rest.0.0.0.0.1 c.in-0-to-1.in-0-to-1-own.rest.0.0.0.1 c.in-0-to-1.in-0-to-1-own.rest.0.0.1 c.in-0-to-1.in-0-to-1-own.rest.0.1 c.in-0-to-1.in-0-to-1-own.rest.1
+pub returns-in-Empty : goal.returns-in-Empty
+returns-in-Empty c = λ n g h. empty_part g c.args.r (c.row.ensures n h) c.in-Empty.ensures

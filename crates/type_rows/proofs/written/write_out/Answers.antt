@@ -5,32 +5,35 @@ use Rattle.type_rows.specs.Grown.{type_in}
 use Rattle.type_rows.specs.Writing.{writing_none, writing_more, too_wide, all_written, all_blank, narrow}
 use Rattle.type_rows.proofs.written.write_out.Goals as goal
 
-pub bounds-from-512 : goal.bounds-from-512
-bounds-from-512 c = omega arith
-
-pub loop-free-init : goal.loop-free-init
-loop-free-init c = rw c.requires.own_value (writing_none (type_in c.args.s.now c.args.work.now c.args.used) c.args.found)
-
-pub offset_bounds-from-i : goal.offset_bounds-from-i
-offset_bounds-from-i c = omega (arith, c.loop-free.invariant.order)
-
-pub bounds-from-i : goal.bounds-from-i
-bounds-from-i c = omega (arith, c.loop-free.invariant.order.1)
+pub loop-i-init : goal.loop-i-init
+loop-i-init c = rw c.requires.own_value (writing_none (type_in c.args.s.now c.args.work.now c.args.used) c.args.found)
 
 pub row-c-requires : goal.row-c-requires
-row-c-requires c = (c.requires.whole, (let z = (c.loop-free.invariant.known c.loop-free.i c.loop-free-test.true c.loop-free.invariant.order.1) in omega (arith, z, c.requires.grows.2)))
+row-c-requires c = omega (arith, (c.loop-i.invariant.known c.loop-i.i c.if-i-free.false c.loop-i.invariant.order.1), c.requires.grows.2)
 
-pub returns-then-free-n : goal.returns-then-free-n
-returns-then-free-n c = record { written = λ z. absurd (omega arith); narrow = λ z. absurd (omega arith); blank = λ z. absurd (omega arith); over = λ z. too_wide (type_in c.args.s.now c.args.work.now c.args.used) c.requires.grows.0.low c.loop-free.invariant c.loop-free-test.true (cells_of c.row-c.result) (c.row-c.ensures c.args.used (let z = (c.loop-free.invariant.known c.loop-free.i c.loop-free-test.true c.loop-free.invariant.order.1) in omega (arith, z, c.requires.grows.1))) (rw c.parts-n.ensures at c.if-free-n.true) }
+pub returns-in_err-rest-clause-over : goal.returns-in_err-rest-clause-over
+returns-in_err-rest-clause-over c = λ z. too_wide (type_in c.args.s.now c.args.work.now c.args.used) c.requires.grows.0.low c.loop-i.invariant c.if-i-free.false (cells_of c.row-c.result) (c.row-c.ensures c.args.used (omega (arith, (c.loop-i.invariant.known c.loop-i.i c.if-i-free.false c.loop-i.invariant.order.1), c.requires.grows.1))) (omega (arith, c.in_err-rest.ensures, c.parts.ensures))
 
 pub hand_out-requires : goal.hand_out-requires
-hand_out-requires c = record { own_len = c.loop-free.invariant.own_size; from_len = c.loop-free.invariant.from_size; le_i = (omega arith, c.loop-free.invariant.order.1, c.loop-free.invariant.begun, (rw c.parts-n.ensures at c.if-free-n.false), λ x. rw (ap (λ y. y.p) (c.row-c.ensures c.args.used (let z = (c.loop-free.invariant.known c.loop-free.i c.loop-free-test.true c.loop-free.invariant.order.1) in omega (arith, z, c.requires.grows.1)))) (c.requires.grows.0.small _)) }
+hand_out-requires c = record { le_i = (c.loop-i-test.true, c.loop-i.invariant.order.1, c.loop-i.invariant.begun, (rw c.parts.ensures at c.in_ok-rest.ensures.0), λ x. rw (ap (λ y. y.p) (c.row-c.ensures c.args.used (omega (arith, (c.loop-i.invariant.known c.loop-i.i c.if-i-free.false c.loop-i.invariant.order.1), c.requires.grows.1)))) (c.requires.grows.0.small _)) }
 
-pub overflow_sub-i : goal.overflow_sub-i
-overflow_sub-i c = omega arith
+pub loop-i-preserved : goal.loop-i-preserved
+loop-i-preserved c = rw (c.in_ok-rest.ensures.1, c.parts.ensures) (writing_more (type_in c.args.s.now c.args.work.now c.args.used) c.requires.grows.0.low c.loop-i.invariant c.if-i-free.false (c.row-c.ensures c.args.used (omega (arith, (c.loop-i.invariant.known c.loop-i.i c.if-i-free.false c.loop-i.invariant.order.1), c.requires.grows.1))) c.hand_out.ensures (rw c.parts.ensures at c.in_ok-rest.ensures.0))
 
-pub loop-free-preserved : goal.loop-free-preserved
-loop-free-preserved c = rw c.parts-n.ensures (writing_more (type_in c.args.s.now c.args.work.now c.args.used) c.requires.grows.0.low c.loop-free.invariant c.loop-free-test.true (c.row-c.ensures c.args.used (let z = (c.loop-free.invariant.known c.loop-free.i c.loop-free-test.true c.loop-free.invariant.order.1) in omega (arith, z, c.requires.grows.1))) c.hand_out.ensures (rw c.parts-n.ensures at c.if-free-n.false))
+pub returns-after-loop-i-clause-written : goal.returns-after-loop-i-clause-written
+returns-after-loop-i-clause-written c = λ z. all_written (type_in c.args.s.now c.args.work.now c.args.used) c.requires.grows.0.low c.loop-i.invariant (omega arith)
 
-pub returns : goal.returns
-returns c = record { written = λ z. all_written (type_in c.args.s.now c.args.work.now c.args.used) c.requires.grows.0.low c.loop-free.invariant c.loop-free-test.false; narrow = λ z. narrow (type_in c.args.s.now c.args.work.now c.args.used) c.requires.grows.0.low c.loop-free.invariant c.loop-free-test.false; blank = λ z. all_blank (type_in c.args.s.now c.args.work.now c.args.used) c.requires.grows.0.low c.loop-free.invariant c.loop-free-test.false; over = λ z. absurd (omega (arith, z, c.loop-free.invariant.begun)) }
+pub returns-after-loop-i-clause-narrow : goal.returns-after-loop-i-clause-narrow
+returns-after-loop-i-clause-narrow c = λ z. narrow (type_in c.args.s.now c.args.work.now c.args.used) c.requires.grows.0.low c.loop-i.invariant (omega arith)
+
+pub returns-after-loop-i-clause-blank : goal.returns-after-loop-i-clause-blank
+returns-after-loop-i-clause-blank c = all_blank (type_in c.args.s.now c.args.work.now c.args.used) c.requires.grows.0.low c.loop-i.invariant (omega arith)
+
+pub returns-then-i-free-clause-written : goal.returns-then-i-free-clause-written
+returns-then-i-free-clause-written c = λ z. all_written (type_in c.args.s.now c.args.work.now c.args.used) c.requires.grows.0.low c.loop-i.invariant c.if-i-free.true
+
+pub returns-then-i-free-clause-narrow : goal.returns-then-i-free-clause-narrow
+returns-then-i-free-clause-narrow c = λ z. narrow (type_in c.args.s.now c.args.work.now c.args.used) c.requires.grows.0.low c.loop-i.invariant c.if-i-free.true
+
+pub returns-then-i-free-clause-blank : goal.returns-then-i-free-clause-blank
+returns-then-i-free-clause-blank c = all_blank (type_in c.args.s.now c.args.work.now c.args.used) c.requires.grows.0.low c.loop-i.invariant c.if-i-free.true

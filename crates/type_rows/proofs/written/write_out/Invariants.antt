@@ -3,8 +3,5 @@ use Rattle.type_rows.specs.Grown.{type_in}
 use Rattle.type_rows.specs.Writing.{Writing}
 use Rattle.type_rows.proofs.written.write_out.Given as goal
 
-abbrev pub invariant-loop-free : goal.invariant-loop-free
-invariant-loop-free l = Writing (type_in l.s l.work l.used) l.found l.own l.from l.free l.i
-
-abbrev pub decreases-loop-free : goal.decreases-loop-free
-decreases-loop-free l = l.i
+abbrev pub invariant-loop-i : goal.invariant-loop-i
+invariant-loop-i l = Writing (type_in l.s l.work l.used) l.found l.own l.from l.free l.i

@@ -4,7 +4,7 @@ use Rattle.within.specs.Steps.{Going}
 use Rattle.within.proofs.row.walks.Given as goal
 
 abbrev pub invariant-loop-q : goal.invariant-loop-q
-invariant-loop-q l = Going l.s l.own l.first l.behind l.own_first l.own_behind l.same l.own_kin l.kin l.w l.pending l.done l.fresh l.met l.q
+invariant-loop-q l = Going l.fn.s l.fn.own.rows.now.bytes l.fn.tables.first l.fn.tables.behind l.fn.own.first.now l.fn.own.behind.now l.fn.tables.same l.fn.own.kin.now l.fn.tables.kin l.fn.w l.queue.pending l.queue.done l.fresh.pending l.fresh.done
 
 abbrev pub decreases-loop-q : goal.decreases-loop-q
-decreases-loop-q l = missing l.met
+decreases-loop-q l = missing l.fresh.done

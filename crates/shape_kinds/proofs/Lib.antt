@@ -1,4 +1,0 @@
-pub mod Arms
-pub mod ForestRows
-pub mod RowTests
-pub mod Words

@@ -1,6 +1,0 @@
--- `shape_users::refer_procedure` meets its contract: one word after another.
-use Rattle.shape_users.proofs.Counts.{then}
-use Rattle.shape_users.proofs.refer_procedure.Goals as goal
-
-pub returns : goal.returns
-returns c = then (then (then c.refer.ensures c.refer-2.ensures) c.refer-3.ensures) c.refer-4.ensures
