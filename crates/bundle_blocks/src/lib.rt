@@ -63,12 +63,13 @@ pub fn unpack(b: &[u8], m: usize, out: &mut [u8])
     }
 }
 
-// Whether each byte from `from` on, up to `to`, is 0.
+// Whether each byte from `from` on, up to `to`, is 0. No `skip(from)`: that goes over what it skips, a byte at a time.
 pub fn all_zero(p: &[u8], from: usize, to: usize) -> bool
     requires { to ≤ length p.now }
     ensures { result ≡ all_zero (drop from (take to p.now)) }
 {
-    p[..to].iter().skip(from).all(|byte| *byte == 0)
+    let part = &p[..to];
+    part[part.len().min(from)..].iter().all(|byte| *byte == 0)
 }
 
 // Writes the payload of block `k`, counted from 0: what is left of the sheet, at most 508 bytes, and 0 behind it.

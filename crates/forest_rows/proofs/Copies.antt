@@ -18,8 +18,22 @@ use Rattle.walk.specs.Loop.{Links, gathered}
 use Rattle.forest_rows.specs.Rows.{Pushed, CopyAsks, Copied, Takes, GatherAsks, Gathered, chosen, link}
 use Rattle.forest_rows.specs.declared.Which.{Which}
 use Rattle.forest_rows.specs.declared.Which.TheVariants.{All}
-use Rattle.forest_rows.specs.Table.{read_next, read_child, read_forest, forest_none, push_low, push_forest}
+use Rattle.forest_rows.specs.Table.{read_next, read_child, read_forest, read_count, forest_none, count_none, push_low, push_forest}
 use Rattle.forest_rows.proofs.Labels.{out_three, chosen_yes, chosen_no, count_chosen_none}
+
+-- ---- counts
+
+count_any : (byte : ℕ → ℕ) (a : ℕ → Cells) (k r : ℕ) → LowRows a r → r ≤ k → count (forest_at byte a r) ≤ r
+count_any byte a zero zero low h = omega (arith, count_none byte a 0 refl)
+count_any byte a (suc k) zero low h = omega (arith, count_none byte a 0 refl)
+count_any byte a zero (suc r) low h = absurd (omega arith)
+count_any byte a (suc k) (suc r) low h =
+    let next = read_next a (suc r) (suc r) (a (suc r)) low (omega arith) (omega arith) refl in
+    omega (arith, read_count byte a (suc r) (suc r) (a (suc r)) low (omega arith) (omega arith) refl, count_any byte a k (a (suc r)).r (λ i p q. low i p (omega arith)) (omega arith))
+
+-- no more trees than rows
+pub count_le : (byte : ℕ → ℕ) (a : ℕ → Cells) (n r : ℕ) → LowRows a n → r ≤ n → count (forest_at byte a r) ≤ r
+count_le byte a n r low h = count_any byte a r r (λ i p q. low i p (omega arith)) (omega arith)
 
 -- ---- copying: what is still to be written, below row `to`, is continued by the rows above it
 

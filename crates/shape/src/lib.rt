@@ -38,7 +38,7 @@ fn is_named(s: &Sheet, x: usize) -> bool
 fn names_ok(s: &Sheet) -> bool
     ensures { result ≡ names_ok (sheet_of s.now) }
 {
-    (1..=s.names()).all(|x| is_named(s, x))
+    (1..s.names() + 1).all(|x| is_named(s, x))
 }
 
 // The first parameter may be 0 only if the second is.
@@ -64,7 +64,7 @@ fn is_procedure(s: &Sheet, c: Procedure) -> bool
 fn procedures_ok(s: &Sheet) -> bool
     ensures { result ≡ procedures_ok (sheet_of s.now) }
 {
-    (1..=s.procedures()).all(|c| is_procedure(s, s.procedure_row(c)))
+    (1..s.procedures() + 1).all(|c| is_procedure(s, s.procedure_row(c)))
 }
 
 // A, B and main are there; the forest's root may be 0.

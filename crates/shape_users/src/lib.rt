@@ -21,7 +21,9 @@ ghost use Rattle.shape_users.specs.Tally.{Added, counted};
 use crate::tally::{Counted, Tally, all_one};
 use sheet::Sheet;
 
-// What a statement refers to: statements, or the queries that it asks. (Within the closure of `by_statements` its proof did not close.)
+// What a statement refers to: statements, or the queries that it asks. (Within the closures below its proof did not close.) Inlined, with
+// what it calls of the tally: so which words count is settled once for each pass, and not for each word.
+#[inline(always)]
 fn refer_statement(s: &Sheet, which: Counted, i: usize, tally: &mut Tally)
     ensures { Added tally.old.counts tally.new.counts
         (λ r. hits (counted which) r (statement_uses (script_of s.now).procedure_row ((script_of s.now).statement_row i))
@@ -29,14 +31,6 @@ fn refer_statement(s: &Sheet, which: Counted, i: usize, tally: &mut Tally)
 {
     let c = s.statement_row(i);
     tally.refer_row(which, shape_kinds::statement_uses(s, c), c);
-}
-
-fn by_statements(s: &Sheet, which: Counted, tally: &mut Tally)
-    ensures { Added tally.old.counts tally.new.counts
-        (λ r. total (λ i. hits (counted which) r (statement_uses (script_of s.now).procedure_row
-        ((script_of s.now).statement_row i)) ((script_of s.now).statement_row i)) (script_of s.now).statements) }
-{
-    tally.each(s.statements(), |t, i| refer_statement(s, which, i, t));
 }
 
 // The four below stay four: they differ in which passes they make and in which words of the header they add, so one function over the
@@ -66,7 +60,10 @@ fn queries_once(s: &Sheet) -> bool
         let c = s.query_row(i);
         t.refer_row(Counted::Own, shape_kinds::query_uses(c), c);
     });
-    by_statements(s, Counted::Queries, &mut tally);
+    tally.each(
+        s.statements(),
+        |t, i| refer_statement(s, Counted::Queries, i, t),
+    );
     all_one(&tally.counts, s.queries())
 }
 
@@ -75,7 +72,10 @@ fn statements_once(s: &Sheet) -> bool
     ensures { result ≡ every (λ i. eqb (statement_users (sheet_of s.now) i) 1) (script_of s.now).statements }
 {
     let mut tally = Tally::new();
-    by_statements(s, Counted::Own, &mut tally);
+    tally.each(
+        s.statements(),
+        |t, i| refer_statement(s, Counted::Own, i, t),
+    );
     tally.each(
         s.procedures(),
         |t, i| t.refer(Some(s.procedure_row(i).body)),

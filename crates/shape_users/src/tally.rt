@@ -62,6 +62,7 @@ impl Tally {
     }
 
     // The words of a row, those that count.
+    #[inline(always)]
     #[tactic(auto, unfolding(meaning::specs::Shape::own, meaning::specs::Shape::asking))]
     pub(crate) fn refer_row(&mut self, which: Counted, k: Option<Uses>, c: Row)
         ensures { Added self.old.counts self.new.counts (λ r. hits (counted which) r (uses_in k) (cells_of c)) }
@@ -86,6 +87,7 @@ impl Tally {
     }
 
     // What each of the rows 1 to `n` refers to.
+    #[inline(always)]
     pub(crate) fn each<F: Fn(&mut Tally, usize)>(&mut self, n: usize, count: F)
         requires few { n < 65536 }
         requires called { F.IsAlwaysCallable count }
@@ -104,5 +106,5 @@ pub fn all_one(counts: &[u8; 2049], n: usize) -> bool
     requires { n ≤ 2048 }
     ensures { result ≡ every (λ i. eqb (get_or counts.now i 0) 1) n }
 {
-    (1..=n).all(|i| counts[i] == 1)
+    (1..n + 1).all(|i| counts[i] == 1)
 }

@@ -435,6 +435,14 @@ module _ (g : ℕ → Cells) (low : Lower g) {found : ℕ} {own from : List ℕ}
 own_blank : (k : ℕ) → (own_row (replicate 3072 0) k).kind ≡ 0
 own_blank k = elim (either (in_table 512 k)) [ inl h ↦ rw h (rw (zeros 3072 (2 * (0 + 3 * (k - 1))), zeros 3072 (2 * (0 + 3 * (k - 1)) + 1))) | inr h ↦ rw h ]
 
+-- where no row is written all but the last are blank
+pub blank_all : Blank (replicate 3072 0) 511
+blank_all = record {
+  few = omega arith;
+  none = λ k a b. own_blank k;
+  unused = λ k j u. (let n = uses_kind (own_row (replicate 3072 0) k) j u in let z : ◌≡◌ {A = ℕ} 0 (suc n.0) = sym (own_blank k) ∙ n.1 in absurd (omega arith));
+}
+
 pub writing_none : (g : ℕ → Cells) (found : ℕ) → Writing g found (replicate 3072 0) (set (replicate 513 0) 512 found) 511 512
 unfolding weigh
 writing_none g found = record {

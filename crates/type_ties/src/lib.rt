@@ -180,7 +180,9 @@ pub fn tie_in(s: &Sheet, root: &Flags, tables: &Tables) -> Option<Tied>
     tie(s, root, tables)
 }
 
-// The lowest tie of a sheet by tables of its own: these, then all points.
+// The lowest tie of a sheet by tables of its own: these, then all points. Not inlined: the tables would lie in the frame of a whole run
+// (docs/STACK.md).
+#[inline(never)]
 fn by_tables(s: &Sheet) -> Option<Tied>
     requires { shapely s.now ≡ true }
     ensures { SaysTie s.now result }

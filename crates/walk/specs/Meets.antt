@@ -25,6 +25,9 @@ same_trans n m a b c h x y = λ r i j. x r i j ∙ y r i (omega arith)
 pub low_same : (n : ℕ) (a b : ℕ → Cells) → LowRows a n → SameRows a b n → LowRows b n
 low_same n a b low same = λ r i j. subst (λ (c : Cells). LowRow c r) (same r i j) (low r i j)
 
+pub low_less : (n m : ℕ) (a : ℕ → Cells) → n ≤ m → LowRows a m → LowRows a n
+low_less n m a h low = λ r i j. low r i (omega arith)
+
 -- old values stay true
 pub forest_kept : (byte : ℕ → ℕ) (n : ℕ) (a b : ℕ → Cells) (r : ℕ) → LowRows a n → SameRows a b n → r ≤ n → forest_at byte b r ≡ forest_at byte a r
 forest_kept byte n a b r low same h = sym (forest_at_same byte a b r (λ i p q. low i p (omega arith)) (λ i p q. same i p (omega arith)))

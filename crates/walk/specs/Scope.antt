@@ -124,6 +124,9 @@ module _ (byte : ℕ → ℕ) where
   unfolding values
   env_fresh {e} s f = rw f.none
 
+  pub env_length : {n : ℕ} {e : Scope} (s : List ℕ) → Scoped n e → length (env_of byte s e) ≡ e.count
+  env_length {n} {e} s c = values_length (forest_at byte (lent_row s)) (live e) ∙ length-take-le e.count e.places (omega (arith, c.few, c.sixteen))
+
   -- the value of a variable
   pub env_at : (s : List ℕ) (e : Scope) (v : ℕ) → get_or (env_of byte s e) v nil ≡ forest_at byte (lent_row s) (value_of e v)
   env_at s e v = values_at (forest_at byte (lent_row s)) nil (forest_at_zero byte (lent_row s)) (live e) v

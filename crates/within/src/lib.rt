@@ -115,7 +115,8 @@ pub fn plain(
     requires grows { Grows s.now work.now used × (found ≤ (script_of s.now).types + used) × (found < 65536) }
     ensures { Answers s.now (ty_in s.now work.now used found) (plain_ty wanted) result }
 {
-    let own = Own::of(s, work, used, found)?;
+    let mut own = Own::new();
+    own.write(s, work, used, found)?;
     Ok(sum_up(&own, wanted) == plain_sum(wanted))
 }
 
@@ -124,7 +125,8 @@ fn is_own(s: &Sheet, work: &[u8], used: usize, wanted: usize, own: &Own) -> bool
     requires { Grows s.now work.now used × (wanted ≤ (script_of s.now).types + used) × (wanted < 65536) }
     ensures { result ≡ true → own_type own.now.bytes 512 ≡ ty_in s.now work.now used wanted }
 {
-    let Ok(other) = Own::of(s, work, used, wanted) else {
+    let mut other = Own::new();
+    let Ok(()) = other.write(s, work, used, wanted) else {
         return false;
     };
     let from = 6 * own.low;
@@ -155,7 +157,8 @@ pub fn declared(
     if let Ty::Nothing | Ty::Empty = type_rows::row(s, work, found).as_type() {
         return Ok(bits::has(&tables.first, wanted, 0));
     }
-    let own = Own::of(s, work, used, found)?;
+    let mut own = Own::new();
+    own.write(s, work, used, found)?;
     if is_own(s, work, used, wanted, &own) {
         return Ok(true);
     }

@@ -30,6 +30,8 @@ pub choose-returns-in_err-x : goal.choose-returns-in_err-x
 unfolding query_type
 choose-returns-in_err-x t c = finds_err c.from_residual.ensures.1 (halt_then _ c.in_err-x.ensures.by)
 
+-- a condition that is refused refuses the if:
+-- too wide, or no bool
 pub choose-returns-in_err-must_be : goal.choose-returns-in_err-must_be
 choose-returns-in_err-must_be t c = finds_err c.from_residual-in_err-must_be.ensures.1 (choose_halts c.args.s.now c.args.depth c.requires.ready c.args.at c.args.p c.args.q c.args.r c.in_ok-x.ensures.by c.in_err-must_be.ensures.by)
 

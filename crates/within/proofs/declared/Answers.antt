@@ -22,10 +22,10 @@ pub is_own-requires : goal.is_own-requires
 is_own-requires c = (c.requires.grows.0, (omega (arith, table_high (script_of c.args.s.now).types c.args.wanted c.requires.wanted_value.0)), omega (arith, table_high (script_of c.args.s.now).types c.args.wanted c.requires.wanted_value.0, few_types c.args.s.now (loads_shapely c.requires.loads)))
 
 pub returns-then-is_own : goal.returns-then-is_own
-returns-then-is_own c = lies_alike c.requires.grows.0 _ c.requires.wanted_value.0 c.in_ok-own.ensures.written (c.in_ok-own.ensures.narrow (search rules)) (c.is_own.ensures c.if-is_own.true)
+returns-then-is_own c = lies_alike c.requires.grows.0 _ c.requires.wanted_value.0 (c.in_ok-write.ensures.written (search rules)) (c.in_ok-write.ensures.narrow (search rules)) (c.is_own.ensures c.if-is_own.true)
 
 pub in_row-requires-clause-standing : goal.in_row-requires-clause-standing
-in_row-requires-clause-standing c = own_standing c.requires.grows.0 c.in_ok-own.ensures.written
+in_row-requires-clause-standing c = own_standing c.requires.grows.0 (c.in_ok-write.ensures.written (search rules))
 
 pub returns : goal.returns
-returns c = lies_answers c.requires.grows.0 c.in_ok-own.ensures.written (c.in_ok-own.ensures.narrow (search rules)) c.in_row.ensures
+returns c = lies_answers c.requires.grows.0 (c.in_ok-write.ensures.written (search rules)) (c.in_ok-write.ensures.narrow (search rules)) c.in_row.ensures
